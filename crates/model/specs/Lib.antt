@@ -1,0 +1,12 @@
+pub mod Key
+pub mod Order
+pub mod Record
+pub mod RangePrefix
+pub mod UpperBound
+pub mod Tables
+pub mod Cuts
+pub mod Translation
+pub mod Pivots
+pub mod Bucket
+pub mod Refusals
+pub mod Calls

@@ -1,0 +1,88 @@
+-- What a call answers: its result, or the first cause that applies in the call's ordered list.
+use mathlib.Core.Bool.{Bool, true, false, cond}
+use mathlib.Core.List.{List, [], _∷_, _++_}
+use mathlib.Core.Option.{Option, none, some}
+use Prim.Native.Nat.{ℕ}
+use lib.IntN.{ℤ}
+use lib.ListN.{length, drop}
+use Rattle.model.specs.declared.Refusal.{Refusal}
+use Rattle.model.specs.declared.Refusal.the-variants.{Shape, Malformed, Unsorted, EmptyPrefix, OutOfRange, NoSuchSlot, NotPrefix, TooLong, NotBelow, NoRoom}
+use Rattle.model.specs.declared.Answer.{Answer}
+use Rattle.model.specs.declared.Answer.the-variants as answers
+use Rattle.model.specs.declared.Compared.{Compared}
+use Rattle.model.specs.declared.Compared.the-variants as compared
+
+infix 5 _⇒_
+-- the numbers of the table "Refusals"
+abbrev pub number : Refusal → ℕ
+number Shape = 1
+number Malformed = 2
+number Unsorted = 3
+number EmptyPrefix = 4
+number OutOfRange = 5
+number NoSuchSlot = 6
+number NotPrefix = 7
+number TooLong = 8
+number NotBelow = 9
+number NoRoom = 10
+
+-- a cause: whether it applies, and what is answered then
+pub data Cause : Type 0 where
+  _⇒_ : Bool → Refusal → Cause
+
+-- "The smallest number that applies is answered": a call lists its causes in that order
+unfoldable pub first : List Cause → Option Refusal
+first [] = none
+first ((applies ⇒ r) ∷ causes) = cond applies (some r) (first causes)
+
+-- ---- answers
+
+abbrev pub valueOr : Option Refusal → ℕ → Answer
+valueOr none n = answers.Value n
+valueOr (some r) n = answers.Refused r
+
+-- the call's value, or its refusal
+unfoldable pub answer : List Cause → ℕ → Answer
+answer causes n = valueOr (first causes) n
+
+abbrev pub orderOr : Option Refusal → ℤ → Compared
+orderOr none z = compared.Order z
+orderOr (some r) z = compared.Refused r
+
+unfoldable pub comparison : List Cause → ℤ → Compared
+comparison causes z = orderOr (first causes) z
+
+-- each answer's number, 0 where it is accepted, and its value
+abbrev pub answerNumber : Answer → ℕ
+answerNumber (answers.Value n) = 0
+answerNumber (answers.Refused r) = number r
+
+abbrev pub answerValue : Answer → ℕ
+answerValue (answers.Value n) = n
+answerValue (answers.Refused r) = 0
+
+abbrev pub comparedNumber : Compared → ℕ
+comparedNumber (compared.Order z) = 0
+comparedNumber (compared.Refused r) = number r
+
+-- ---- bytes
+
+-- w written at the head of d: "Bytes after what is written don't change"
+unfoldable pub over : List ℕ → List ℕ → List ℕ
+over w d = w ++ drop (length w) d
+
+abbrev pub overOr : Option Refusal → List ℕ → List ℕ → List ℕ
+overOr none w d = over w d
+overOr (some r) w d = d
+
+-- what a call that writes w leaves in the destination d: "a refusal changes no lent byte"
+unfoldable pub leaves : List Cause → List ℕ → List ℕ → List ℕ
+leaves causes w d = overOr (first causes) w d
+
+abbrev pub partOr : Option Refusal → List ℕ → List ℕ
+partOr none k = k
+partOr (some r) k = []
+
+-- "hands back that part of the caller's slice, or an empty part where it would refuse"
+unfoldable pub part : List Cause → List ℕ → List ℕ
+part causes k = partOr (first causes) k

@@ -1,0 +1,43 @@
+// What every crate shares by name: the limits, the refusals, and the answers of the calls.
+// This crate has no function. Its definitions are in specs/, its laws in proofs/.
+
+// The limits of specs/Record.antt and specs/Tables.antt, for use in code.
+pub const MAX_LEN: usize = 64;
+
+pub const RECORD_SIZE: usize = 66;
+
+pub const ENTRY_SIZE: usize = 70;
+
+// Why a call refuses. `number` in specs/Refusals.antt gives each its number.
+pub enum Refusal {
+    Shape,
+    Malformed,
+    Unsorted,
+    EmptyPrefix,
+    OutOfRange,
+    NoSuchSlot,
+    NotPrefix,
+    TooLong,
+    NotBelow,
+    NoRoom,
+}
+
+// What a call answers whose result is a length, a place or a count.
+pub enum Answer {
+    Value(usize),
+    Refused(Refusal),
+}
+
+// What compare answers: -1, 0 or 1.
+pub enum Compared {
+    Order(i64),
+    Refused(Refusal),
+}
+
+// The four ways in which a record is read; a key comes with its length.
+pub enum Reading {
+    Key(usize),
+    Malformed,
+    NoEdge,
+    Max,
+}
