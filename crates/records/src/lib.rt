@@ -1,0 +1,14 @@
+// Records of 66 bytes: what they say, and how they are written. No public function has a `requires`.
+mod read;
+mod write;
+
+pub use read::field_reading;
+pub use read::holds_element;
+pub use read::is_max;
+pub use read::key_bytes;
+pub use read::length_field;
+pub use read::read_record;
+pub use write::copy;
+pub use write::put_record;
+pub use write::record_of;
+pub use write::store;

@@ -1,0 +1,94 @@
+// What a record says.
+use model::Reading;
+
+ghost use mathlib.Core.Path.{_≡_};
+ghost use Prim.Native.Nat.{_+_, _≤_, _<_};
+ghost use lib.Dec.{eqb};
+ghost use Rattle.model.specs.Record.{lengthField, fieldReading, keyLength, reading, keyBytes, elementReading, maxMark};
+
+fn wide16(x: u8) -> u16
+    ensures { λ r. ⌜ (r ≡ x) × (r < 256) ⌝ }
+{
+    x as u16
+}
+
+fn wide(x: u16) -> usize
+    ensures { λ r. ⌜ (r ≡ x) × (r < 65536) ⌝ }
+{
+    x as usize
+}
+
+// The length field: two bytes, high byte first.
+pub fn length_field(rec: &[u8]) -> u16
+    ensures { λ r. ⌜ r ≡ lengthField (now (rec .entry)) ⌝ }
+{
+    wide16(scan::byte_at(rec, 0)) * 256 + wide16(scan::byte_at(rec, 1))
+}
+
+// The four ways in which a length field is read.
+pub fn field_reading(n: u16) -> Reading
+    ensures { λ r. ⌜ r ≡ fieldReading n ⌝ }
+{
+    match n {
+        0..=64 => Reading::Key(wide(n)),
+        65..=65533 => Reading::Malformed,
+        65534 => Reading::NoEdge,
+        65535 => Reading::Max,
+    }
+}
+
+// How many bytes after the length field need not be zero.
+fn key_length(way: Reading) -> usize
+    ensures { λ r. ⌜ r ≡ keyLength way ⌝ }
+{
+    match way {
+        Reading::Key(n) => n,
+        Reading::Malformed => 0,
+        Reading::NoEdge => 0,
+        Reading::Max => 0,
+    }
+}
+
+// What a record says.
+pub fn read_record(rec: &[u8]) -> Reading
+    ensures { λ r. ⌜ r ≡ reading (now (rec .entry)) ⌝ }
+{
+    let way = field_reading(length_field(rec));
+    let tail = 2 + key_length(way);
+    if scan::zero_from(rec, tail) {
+        return way;
+    }
+    Reading::Malformed
+}
+
+// Whether a record says max, by its length field.
+pub fn is_max(rec: &[u8]) -> bool
+    ensures { λ r. ⌜ r ≡ eqb (lengthField (now (rec .entry))) maxMark ⌝ }
+{
+    length_field(rec) == 65535
+}
+
+// Whether a record is a key's or max.
+pub fn holds_element(rec: &[u8]) -> bool
+    ensures { λ r. ⌜ r ≡ elementReading (reading (now (rec .entry))) ⌝ }
+{
+    match read_record(rec) {
+        Reading::Key(_) => true,
+        Reading::Malformed => false,
+        Reading::NoEdge => false,
+        Reading::Max => true,
+    }
+}
+
+// The bytes that the length field counts, as a part of the record.
+pub fn key_bytes(rec: &[u8]) -> &[u8]
+    ensures { λ r. ⌜ now r ≡ keyBytes (now (rec .entry)) ⌝ }
+{
+    if rec.len() < 2 {
+        return &rec[..0];
+    }
+    let n = wide(length_field(rec));
+    let room = rec.len() - 2;
+    let end = 2 + scan::least(n, room);
+    &rec[2..end]
+}

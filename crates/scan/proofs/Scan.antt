@@ -1,0 +1,94 @@
+-- A turn and the ends of each scan. An invariant says that what the whole list gives is the places passed and what is left.
+use mathlib.Core.Path.{_≡_, refl, sym, _∙_}
+use mathlib.Core.Logic.{⊎-elim}
+use mathlib.Core.Bool.{Bool, true, false}
+use mathlib.Core.List.{List, [], _∷_}
+use Prim.Native.Nat.{ℕ, suc, _+_, _≤_, _<_, min}
+use native.Mathlib.Omega.{arith}
+use borrow.Author.Tests.{eq-eqb, ne-eqb}
+use lib.Dec.{eqb}
+use lib.ListN.{length, drop, getD, drop-of-length-le, List·getD-eq-default}
+use Rattle.model.specs.Key.{IsPrefix, commonRun}
+use Rattle.model.specs.Record.{allZero}
+use Rattle.model.specs.RangePrefix.{lcpright}
+use Rattle.model.proofs.Lists.{drop-step, le-or-lt}
+use Rattle.model.proofs.Prefix.{prefix-common}
+
+-- past the end of a list there is no byte
+pub past-end : (a : List ℕ) (i : ℕ) → length a ≤ i → 0 ≡ getD a i 0
+past-end a i h = sym (List·getD-eq-default a 0 h)
+
+-- ---- the common run
+
+common-nil : (a : List ℕ) → commonRun a [] ≡ []
+unfolding commonRun
+common-nil [] = refl
+common-nil (x ∷ a) = refl
+
+module _ (a b : List ℕ) (i : ℕ) (h : i + length (commonRun (drop i a) (drop i b)) ≡ length (commonRun a b)) where
+  pub common-turn : (n : ℕ) → i < n → n ≤ length a → n ≤ length b → getD a i 0 ≡ getD b i 0
+      → i + 1 + length (commonRun (drop (i + 1) a) (drop (i + 1) b)) ≡ length (commonRun a b)
+  unfolding commonRun
+  common-turn n p q r e =
+      let s : length (commonRun (drop i a) (drop i b)) ≡ suc (length (commonRun (drop (i + 1) a) (drop (i + 1) b))) =
+          rw (drop-step a i (omega arith), drop-step b i (omega arith), eq-eqb (getD a i 0) (getD b i 0) e) in
+      omega arith
+
+  pub common-differ : (n : ℕ) → i < n → n ≤ length a → n ≤ length b → (getD a i 0 ≡ getD b i 0 → ⊥) → i ≡ length (commonRun a b)
+  unfolding commonRun
+  common-differ n p q r e =
+      let s : length (commonRun (drop i a) (drop i b)) ≡ 0 =
+          rw (drop-step a i (omega arith), drop-step b i (omega arith), ne-eqb (getD a i 0) (getD b i 0) e) in
+      omega arith
+
+  pub common-end : (n : ℕ) → n ≡ min (length a) (length b) → n ≤ i → i ≡ length (commonRun a b)
+  unfolding commonRun
+  common-end n e p =
+      ⊎-elim
+      (λ (q : length a ≤ i). let s : length (commonRun (drop i a) (drop i b)) ≡ 0 = rw (drop-of-length-le a q) in omega arith)
+      (λ (q : i < length a).
+          let r : length b ≤ i = omega arith in
+          let s : length (commonRun (drop i a) (drop i b)) ≡ 0 = rw (drop-of-length-le b r, common-nil) in
+          omega arith)
+      (le-or-lt (length a) i)
+
+-- a key begins with p where the common run is all of p
+pub prefix-run : (p k : List ℕ) (n : ℕ) → n ≡ length (commonRun p k) → eqb n (length p) ≡ IsPrefix p k
+prefix-run p k n e = rw (e, prefix-common)
+
+-- ---- the run of FF
+
+module _ (a : List ℕ) (i : ℕ) (h : i + length (lcpright (drop i a)) ≡ length (lcpright a)) where
+  pub ff-turn : i < length a → getD a i 0 ≡ 255 → i + 1 + length (lcpright (drop (i + 1) a)) ≡ length (lcpright a)
+  unfolding lcpright
+  ff-turn p e =
+      let s : length (lcpright (drop i a)) ≡ suc (length (lcpright (drop (i + 1) a))) =
+          rw (drop-step a i p, eq-eqb (getD a i 0) 255 e) in
+      omega arith
+
+  pub ff-other : i < length a → (getD a i 0 ≡ 255 → ⊥) → i ≡ length (lcpright a)
+  unfolding lcpright
+  ff-other p e =
+      let s : length (lcpright (drop i a)) ≡ 0 = rw (drop-step a i p, ne-eqb (getD a i 0) 255 e) in
+      omega arith
+
+  pub ff-end : length a ≤ i → i ≡ length (lcpright a)
+  unfolding lcpright
+  ff-end p = let s : length (lcpright (drop i a)) ≡ 0 = rw (drop-of-length-le a p) in omega arith
+
+-- ---- zeros to the end
+
+module _ (a : List ℕ) (i : ℕ) (t : Bool) (h : allZero (drop i a) ≡ t) where
+  pub zero-turn : i < length a → getD a i 0 ≡ 0 → allZero (drop (i + 1) a) ≡ t
+  unfolding allZero
+  zero-turn p e = rw (drop-step a i p, eq-eqb (getD a i 0) 0 e) at h
+
+  pub zero-other : i < length a → (getD a i 0 ≡ 0 → ⊥) → false ≡ t
+  unfolding allZero
+  zero-other p e = rw (drop-step a i p, ne-eqb (getD a i 0) 0 e) at h
+
+  pub zero-end : length a ≤ i → true ≡ t
+  unfolding allZero
+  zero-end p = rw (drop-of-length-le a p) at h
+
+pub ruleset scans = (refl, past-end, ff-turn, ff-other, ff-end, zero-turn, zero-other, zero-end)

@@ -1,0 +1,76 @@
+// Scans over lent bytes. Nothing is written, and no public function has a `requires`.
+ghost use mathlib.Core.Path.{_≡_};
+ghost use Prim.Native.Nat.{_≤_, min};
+ghost use lib.ListN.{length, drop, getD};
+ghost use Rattle.model.specs.Key.{IsPrefix, commonRun};
+ghost use Rattle.model.specs.Record.{allZero};
+ghost use Rattle.model.specs.RangePrefix.{lcpright};
+
+// The byte at a place, or 0 past the end.
+pub fn byte_at(s: &[u8], i: usize) -> u8
+    ensures { λ r. ⌜ r ≡ getD (now (s .entry)) i 0 ⌝ }
+{
+    if i < s.len() {
+        return s[i];
+    }
+    0
+}
+
+// The smaller of two numbers.
+pub fn least(a: usize, b: usize) -> usize
+    ensures { λ r. ⌜ (r ≡ min a b) × (r ≤ a) × (r ≤ b) ⌝ }
+{
+    if a < b { a } else { b }
+}
+
+// The length of the common run of two keys.
+pub fn common_run(a: &[u8], b: &[u8]) -> usize
+    ensures { λ r. ⌜ r ≡ length (commonRun (now (a .entry)) (now (b .entry))) ⌝ }
+    ensures { λ r. ⌜ (r ≤ length (now (a .entry))) × (r ≤ length (now (b .entry))) ⌝ }
+{
+    let n = least(a.len(), b.len());
+    let mut i = 0;
+    while i < n {
+        if a[i] != b[i] {
+            return i;
+        }
+        i += 1;
+    }
+    i
+}
+
+// The length of the leading run of FF.
+pub fn ff_run(a: &[u8]) -> usize
+    ensures { λ r. ⌜ r ≡ length (lcpright (now (a .entry))) ⌝ }
+    ensures { λ r. ⌜ r ≤ length (now (a .entry)) ⌝ }
+{
+    let mut i = 0;
+    while i < a.len() {
+        if a[i] != 255 {
+            return i;
+        }
+        i += 1;
+    }
+    i
+}
+
+// Whether every byte from a place on is zero.
+pub fn zero_from(a: &[u8], from: usize) -> bool
+    ensures { λ r. ⌜ r ≡ allZero (drop from (now (a .entry))) ⌝ }
+{
+    let mut i = from;
+    while i < a.len() {
+        if a[i] != 0 {
+            return false;
+        }
+        i += 1;
+    }
+    true
+}
+
+// Whether k begins with p.
+pub fn is_prefix(p: &[u8], k: &[u8]) -> bool
+    ensures { λ r. ⌜ r ≡ IsPrefix (now (p .entry)) (now (k .entry)) ⌝ }
+{
+    common_run(p, k) == p.len()
+}
