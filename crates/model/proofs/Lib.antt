@@ -1,3 +1,6 @@
 pub mod Lists
 pub mod Order
 pub mod Prefix
+pub mod Record
+pub mod Records
+pub mod UpperBound

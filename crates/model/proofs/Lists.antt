@@ -2,14 +2,17 @@
 use mathlib.Core.Path.{_≡_, refl}
 use mathlib.Core.Bool.{Bool, true, false}
 use mathlib.Core.List.{List, _∷_}
-use mathlib.Core.Logic.{_⊎_, inl, inr}
-use Prim.Native.Nat.{ℕ, _+_, _-_, _≤_, _<_}
+use mathlib.Core.Logic.{_⊎_, inl, inr, ⊎-elim}
+use Prim.Native.Nat.{ℕ, _+_, _-_, _≤_, _<_, min}
 use native.Mathlib.Numerals.{add-one}
 use native.Mathlib.Omega.{arith}
 use lib.Dec.{leb}
 use borrow.Author.Tests.{leb-true, leb-false}
 use lib.ListN.{length, take, drop, getD, length-drop}
-use lib.Seq.{drop-cons, take-all}
+use lib.Seq.{drop-cons, take-all, take-length}
+use Rattle.model.specs.Key.{Key, maxLen}
+use Rattle.model.specs.Record.{clipped}
+use Rattle.model.specs.Refusals.{over, into}
 
 -- of two numbers one is at most the other
 pub le-or-lt : (a b : ℕ) → (a ≤ b) ⊎ (b < a)
@@ -26,3 +29,20 @@ drop-step l i h = rw (add-one, drop-cons l i 0)
 -- a part from a place to the end is what is left from there
 pub rest : (l : List ℕ) (i : ℕ) → take (length l - i) (drop i l) ≡ drop i l
 rest l i = take-all (length l - i) (drop i l) (omega (arith, length-drop i l))
+
+-- taking no more than there is
+pub take-min : (n : ℕ) (l : List ℕ) → take (min n (length l)) l ≡ take n l
+take-min n l =
+    ⊎-elim (λ (h : n ≤ length l). let e : min n (length l) ≡ n = omega arith in rw e)
+    (λ (h : length l < n). let e : min n (length l) ≡ length l = omega arith in rw (e, take-length, take-all n l (omega arith)))
+    (le-or-lt n (length l))
+
+-- what has room is written whole
+pub into-over : (w d : List ℕ) → length w ≤ length d → into w d ≡ over w d
+unfolding into
+into-over w d h = rw (take-all (length d) w h)
+
+-- a key of at most 64 bytes has room in a record
+pub clipped-all : (k : Key) → length k ≤ maxLen → clipped k ≡ k
+unfolding clipped
+clipped-all k h = take-all maxLen k h

@@ -94,6 +94,10 @@ zeros n = replicate n 0
 unfoldable pub recordOf : ℕ → Key → List ℕ
 recordOf n k = n / 256 ∷ n % 256 ∷ k ++ zeros (maxLen - length k)
 
+-- what of a key has room in a record
+unfoldable pub clipped : Key → Key
+clipped k = take maxLen k
+
 unfoldable pub encode : Element → List ℕ
 encode (key k) = recordOf (length k) k
 encode max = recordOf maxMark []

@@ -4,7 +4,7 @@ use mathlib.Core.List.{List, [], _∷_, _++_}
 use mathlib.Core.Option.{Option, none, some}
 use Prim.Native.Nat.{ℕ}
 use lib.IntN.{ℤ}
-use lib.ListN.{length, drop}
+use lib.ListN.{length, take, drop}
 use Rattle.model.specs.declared.Refusal.{Refusal}
 use Rattle.model.specs.declared.Refusal.the-variants.{Shape, Malformed, Unsorted, EmptyPrefix, OutOfRange, NoSuchSlot, NotPrefix, TooLong, NotBelow, NoRoom}
 use Rattle.model.specs.declared.Answer.{Answer}
@@ -70,6 +70,10 @@ comparedNumber (compared.Refused r) = number r
 -- w written at the head of d: "Bytes after what is written don't change"
 unfoldable pub over : List ℕ → List ℕ → List ℕ
 over w d = w ++ drop (length w) d
+
+-- w written at the head of d as far as there is room
+unfoldable pub into : List ℕ → List ℕ → List ℕ
+into w d = over (take (length d) w) d
 
 abbrev pub overOr : Option Refusal → List ℕ → List ℕ → List ℕ
 overOr none w d = over w d

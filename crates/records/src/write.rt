@@ -3,15 +3,12 @@ use model::MAX_LEN;
 use model::RECORD_SIZE;
 
 ghost use mathlib.Core.Path.{_≡_};
-ghost use Prim.Native.Nat.{_≤_};
-ghost use lib.ListN.{length, take};
-ghost use Rattle.model.specs.Key.{maxLen};
-ghost use Rattle.model.specs.Record.{recordOf};
-ghost use Rattle.model.specs.Refusals.{over};
+ghost use Rattle.model.specs.Record.{recordOf, clipped};
+ghost use Rattle.model.specs.Refusals.{into};
 
 // Copies src to the head of dst, as far as there is room.
 pub fn copy(src: &[u8], dst: &mut [u8])
-    ensures { λ _. ⌜ now (dst .exit) ≡ over (take (length (now (dst .entry))) (now (src .entry))) (now (dst .entry)) ⌝ }
+    ensures { λ _. ⌜ now (dst .exit) ≡ into (now (src .entry)) (now (dst .entry)) ⌝ }
 {
     let n = scan::least(src.len(), dst.len());
     let mut i = 0;
@@ -24,7 +21,7 @@ pub fn copy(src: &[u8], dst: &mut [u8])
 // The record with a given length field and the first 64 bytes of k. It is made in an array, which the
 // compiler knows to be apart from k: a record copied from slice to slice costs a move for each byte.
 pub fn record_of(field: u16, k: &[u8]) -> [u8; 66]
-    ensures { λ r. ⌜ r ≡ recordOf field (take maxLen (now (k .entry))) ⌝ }
+    ensures { λ r. ⌜ r ≡ recordOf field (clipped (now (k .entry))) ⌝ }
 {
     let n = scan::least(k.len(), MAX_LEN);
     let mut made = [0u8; 66];
@@ -40,7 +37,7 @@ pub fn record_of(field: u16, k: &[u8]) -> [u8; 66]
 
 // Writes a record to the head of dst, as far as there is room.
 pub fn store(made: [u8; 66], dst: &mut [u8])
-    ensures { λ _. ⌜ now (dst .exit) ≡ over (take (length (now (dst .entry))) made) (now (dst .entry)) ⌝ }
+    ensures { λ _. ⌜ now (dst .exit) ≡ into made (now (dst .entry)) ⌝ }
 {
     let n = scan::least(RECORD_SIZE, dst.len());
     let mut i = 0;
@@ -52,7 +49,7 @@ pub fn store(made: [u8; 66], dst: &mut [u8])
 
 // Writes the record with a given length field and the first 64 bytes of k to the head of dst.
 pub fn put_record(field: u16, k: &[u8], dst: &mut [u8])
-    ensures { λ _. ⌜ now (dst .exit) ≡ over (take (length (now (dst .entry))) (recordOf field (take maxLen (now (k .entry))))) (now (dst .entry)) ⌝ }
+    ensures { λ _. ⌜ now (dst .exit) ≡ into (recordOf field (clipped (now (k .entry)))) (now (dst .entry)) ⌝ }
 {
     store(record_of(field, k), dst);
 }

@@ -1,0 +1,62 @@
+-- The turns and the ends of the writing loops.
+use mathlib.Core.Path.{_≡_, refl, sym, ap, _∙_}
+use mathlib.Core.List.{List, [], _∷_, _++_}
+use Prim.Native.Nat.{ℕ, suc, _+_, _-_, _/_, _%_, _≤_, _<_, min}
+use native.Mathlib.Nat.{min-comm}
+use native.Mathlib.Numerals.{add-one}
+use native.Mathlib.Omega.{arith}
+use lib.ListN.{length, take, drop, getD, set, length-set, length-take}
+use lib.Seq.{take-suc, set-at, append-snoc, length-take-le}
+use Rattle.model.specs.Key.{maxLen}
+use Rattle.model.specs.Record.{zeros, recordOf, clipped}
+use Rattle.model.specs.Refusals.{over, into}
+use Rattle.model.proofs.Lists.{drop-step, take-min}
+
+pub set-kept : (d₀ d : List ℕ) (i v : ℕ) → length d ≡ length d₀ → length (set d i v) ≡ length d₀
+set-kept d₀ d i v e = length-set d i v ∙ e
+
+-- a byte more of s, over d₀
+module _ (s d₀ d : List ℕ) (i n : ℕ) (h : d ≡ take i s ++ drop i d₀) where
+  pub copy-turn : i < n → n ≤ length s → n ≤ length d₀ → set d i (getD s i 0) ≡ take (i + 1) s ++ drop (i + 1) d₀
+  copy-turn p q r =
+      let f : length (take i s) ≡ i = length-take-le i s (omega arith) in
+      let j : i < length d₀ = omega arith in
+      let k : i < length s = omega arith in
+      rw (h, drop-step d₀ i j, set-at (take i s) (getD d₀ i 0) (drop (i + 1) d₀) (getD s i 0) i f, add-one, take-suc s i 0 k, append-snoc)
+
+  pub copy-end : i ≤ n → n ≤ i → n ≡ min (length s) (length d₀) → d ≡ into s d₀
+  unfolding into over
+  copy-end p q e =
+      let f : i ≡ min (length d₀) (length s) = omega arith in
+      rw (h, length-take, ← f) (rw f (ap (λ (t : List ℕ). t ++ drop (min (length d₀) (length s)) d₀) (take-min (length d₀) s)))
+
+-- ---- a record in an array
+
+-- the record with i bytes of k in it
+unfoldable pub partly : ℕ → List ℕ → ℕ → List ℕ
+partly f k i = f / 256 ∷ f % 256 ∷ take i k ++ zeros (maxLen - i)
+
+pub partly-start : (f : ℕ) (k : List ℕ) → set (set (zeros 66) 0 (f / 256)) 1 (f % 256) ≡ partly f k 0
+unfolding partly
+partly-start f k = refl
+
+zeros-step : (i : ℕ) → i < maxLen → zeros (maxLen - i) ≡ 0 ∷ zeros (maxLen - (i + 1))
+zeros-step i h = let e : maxLen - i ≡ suc (maxLen - (i + 1)) = omega arith in rw e
+
+two-more : (i : ℕ) → 2 + i ≡ suc (suc i)
+two-more i = omega arith
+
+cut-at : (b i : ℕ) (k : List ℕ) → i ≡ min b (length k) → take i k ++ zeros (b - i) ≡ take b k ++ zeros (b - length (take b k))
+cut-at b i k e = rw (length-take, ← e, ← take-min b k, ← e)
+
+module _ (f : ℕ) (k m : List ℕ) (i n : ℕ) (h : m ≡ partly f k i) where
+  pub partly-turn : i < n → n ≤ length k → n ≤ 64 → set m (2 + i) (getD k i 0) ≡ partly f k (i + 1)
+  unfolding partly
+  partly-turn p q r =
+      let g : length (take i k) ≡ i = length-take-le i k (omega arith) in
+      let j : i < length k = omega arith in
+      rw (h, two-more, zeros-step i (omega arith), set-at (take i k) 0 (zeros (maxLen - (i + 1))) (getD k i 0) i g, add-one, take-suc k i 0 j, append-snoc)
+
+  pub partly-end : i ≤ n → n ≤ i → n ≡ min (length k) 64 → m ≡ recordOf f (clipped k)
+  unfolding partly recordOf clipped
+  partly-end p q e = rw h (ap (λ (t : List ℕ). f / 256 ∷ f % 256 ∷ t) (cut-at maxLen i k (omega arith)))
