@@ -74,16 +74,18 @@ to-Lte a b h = ⊎-elim (λ p. p) (λ q. absurd (true≢false (sym h ∙ from-Lt
 pub to-Lt : (a b : Key) → lteKey b a ≡ false → Lt a b
 to-Lt a b h = ⊎-elim (λ p. absurd (true≢false (sym (from-Lte p) ∙ h))) (λ q. q) (parts b a)
 
--- below is not above
-pub Lt-Lte : {a b : Key} → Lt a b → Lte a b
+-- a key below is not above
+Lt-Lte : {a b : Key} → Lt a b → Lte a b
 Lt-Lte start< = start
 Lt-Lte (less< h) = less h
 Lt-Lte (next< h) = next (Lt-Lte h)
 
+-- no key is above itself
 refl-Key : (a : Key) → Lte a a
 refl-Key [] = start
 refl-Key (x ∷ a) = next (refl-Key a)
 
+-- the order goes on from key to key
 trans-Key : {a b c : Key} → Lte a b → Lte b c → Lte a c
 trans-Key start k = start
 trans-Key (less h) (less k) = less (lt-trans h k)
@@ -91,6 +93,7 @@ trans-Key (less h) (next k) = less h
 trans-Key (next h) (less k) = less k
 trans-Key (next h) (next k) = next (trans-Key h k)
 
+-- keys that are not above each other are one
 antisym-Key : {a b : Key} → Lte a b → Lte b a → a ≡ b
 antisym-Key start start = refl
 antisym-Key (less h) (less k) = absurd (omega arith)
@@ -130,6 +133,12 @@ lte-antisym (key a) max h k = absurd (true≢false (sym k))
 lte-antisym max (key b) h k = absurd (true≢false (sym h))
 lte-antisym max max h k = refl
 
+-- nothing is above max
+pub lte-max : (a : Element) → lte a max ≡ true
+unfolding lte
+lte-max (key k) = refl
+lte-max max = refl
+
 -- every key is below max
 pub max-above : (k : Key) → lt (key k) max ≡ true
 unfolding lte
@@ -165,6 +174,7 @@ false-lt a b h = ap not h
 pub lt-lte : (a b : Element) → lt a b ≡ true → lte a b ≡ true
 lt-lte a b h = lte-total b a (lt-false a b h)
 
+-- a test that cannot be passed is failed
 refuted : (t : Bool) → (t ≡ true → ⊥) → t ≡ false
 refuted true h = absurd (h refl)
 refuted false h = refl

@@ -6,7 +6,7 @@ use Prim.Native.Nat.{ℕ, zero, suc, _+_, _-_, _≤_}
 use native.Mathlib.Omega.{arith}
 use lib.Dec.{eqb, eqb·zero-suc, eqb·suc-suc}
 use lib.ListN.{length, take, drop, getD, length-append, length-drop, take-append-drop}
-use lib.Seq.{take-append-seam, drop-append-seam}
+use lib.Seq.{take-append-seam, drop-append-seam, take-take}
 use borrow.Author.Tests.{eqb-true, eqb-false, eq-eqb, ne-eqb}
 use mir.Val.{Fits}
 use mir.Syntax.{w8}
@@ -53,7 +53,14 @@ prefix-is-take p k h = ap (take (length p)) (sym (prefix-split p k h)) ∙ take-
 pub prefix-length : (p k : Key) → IsPrefix p k ≡ true → length p ≤ length k
 prefix-length p k h = omega (arith, simp length-append at (ap length (prefix-split p k h)))
 
+-- of two prefixes of a key the shorter begins the longer
+pub prefix-nested : (p q k : Key) → IsPrefix p k ≡ true → IsPrefix q k ≡ true → length p ≤ length q → IsPrefix p q ≡ true
+prefix-nested p q k h j i =
+    let e : take (length p) q ≡ take (length p) k = rw (← prefix-is-take q k j, take-take) in
+    rw (e, prefix-is-take p k h) at (prefix-take (length p) q)
+
 module _ (p q r : Key) (h : IsPrefix p q ≡ true) (k : IsPrefix q r ≡ true) where
+  -- the last key is the first and what goes on beyond each
   split-twice : p ++ (drop (length p) q ++ drop (length q) r) ≡ r
   split-twice = sym (append-assoc p (drop (length p) q) (drop (length q) r)) ∙ rw (prefix-split p q h) (prefix-split q r k)
 

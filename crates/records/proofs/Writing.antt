@@ -60,3 +60,6 @@ module _ (f : ℕ) (k m : List ℕ) (i n : ℕ) (h : m ≡ partly f k i) where
   pub partly-end : i ≤ n → n ≤ i → n ≡ min (length k) 64 → m ≡ recordOf f (clipped k)
   unfolding partly recordOf clipped
   partly-end p q e = rw h (ap (λ (t : List ℕ). f / 256 ∷ f % 256 ∷ t) (cut-at maxLen i k (omega arith)))
+
+pub stored : (d d′ m : List ℕ) (f : ℕ) (k : List ℕ) → d′ ≡ into m d → m ≡ recordOf f (clipped k) → d′ ≡ into (recordOf f (clipped k)) d
+stored d d′ m f k e h = rw h at e

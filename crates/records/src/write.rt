@@ -1,7 +1,6 @@
 // Bytes written at the head of a destination, up to its end.
 use model::MAX_LEN;
 use model::RECORD_SIZE;
-
 ghost use mathlib.Core.Path.{_≡_};
 ghost use Rattle.model.specs.Record.{recordOf, clipped};
 ghost use Rattle.model.specs.Refusals.{into};

@@ -31,14 +31,14 @@ module _ (a b : List ℕ) (i : ℕ) (h : i + length (commonRun (drop i a) (drop 
   unfolding commonRun
   common-turn n p q r e =
       let s : length (commonRun (drop i a) (drop i b)) ≡ suc (length (commonRun (drop (i + 1) a) (drop (i + 1) b))) =
-          rw (drop-step a i (omega arith), drop-step b i (omega arith), eq-eqb (getD a i 0) (getD b i 0) e) in
+      rw (drop-step a i (omega arith), drop-step b i (omega arith), eq-eqb (getD a i 0) (getD b i 0) e) in
       omega arith
 
   pub common-differ : (n : ℕ) → i < n → n ≤ length a → n ≤ length b → (getD a i 0 ≡ getD b i 0 → ⊥) → i ≡ length (commonRun a b)
   unfolding commonRun
   common-differ n p q r e =
       let s : length (commonRun (drop i a) (drop i b)) ≡ 0 =
-          rw (drop-step a i (omega arith), drop-step b i (omega arith), ne-eqb (getD a i 0) (getD b i 0) e) in
+      rw (drop-step a i (omega arith), drop-step b i (omega arith), ne-eqb (getD a i 0) (getD b i 0) e) in
       omega arith
 
   pub common-end : (n : ℕ) → n ≡ min (length a) (length b) → n ≤ i → i ≡ length (commonRun a b)
@@ -47,9 +47,9 @@ module _ (a b : List ℕ) (i : ℕ) (h : i + length (commonRun (drop i a) (drop 
       ⊎-elim
       (λ (q : length a ≤ i). let s : length (commonRun (drop i a) (drop i b)) ≡ 0 = rw (drop-of-length-le a q) in omega arith)
       (λ (q : i < length a).
-          let r : length b ≤ i = omega arith in
-          let s : length (commonRun (drop i a) (drop i b)) ≡ 0 = rw (drop-of-length-le b r, common-nil) in
-          omega arith)
+      let r : length b ≤ i = omega arith in
+      let s : length (commonRun (drop i a) (drop i b)) ≡ 0 = rw (drop-of-length-le b r, common-nil) in
+      omega arith)
       (le-or-lt (length a) i)
 
 -- a key begins with p where the common run is all of p
@@ -63,7 +63,7 @@ module _ (a : List ℕ) (i : ℕ) (h : i + length (lcpright (drop i a)) ≡ leng
   unfolding lcpright
   ff-turn p e =
       let s : length (lcpright (drop i a)) ≡ suc (length (lcpright (drop (i + 1) a))) =
-          rw (drop-step a i p, eq-eqb (getD a i 0) 255 e) in
+      rw (drop-step a i p, eq-eqb (getD a i 0) 255 e) in
       omega arith
 
   pub ff-other : i < length a → (getD a i 0 ≡ 255 → ⊥) → i ≡ length (lcpright a)
