@@ -1,4 +1,6 @@
 pub mod Lists
+pub mod Causes
+pub mod CommonRun
 pub mod Order
 pub mod Prefix
 pub mod Record

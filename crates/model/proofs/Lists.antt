@@ -1,15 +1,16 @@
 -- Facts on lists and numbers that the proofs of several crates cite.
 use mathlib.Core.Path.{_≡_, refl}
 use mathlib.Core.Bool.{Bool, true, false}
-use mathlib.Core.List.{List, _∷_}
+use mathlib.Core.List.{List, _∷_, _++_, append-assoc, append-nil}
 use mathlib.Core.Logic.{_⊎_, inl, inr, ⊎-elim}
 use Prim.Native.Nat.{ℕ, _+_, _-_, _≤_, _<_, min}
 use native.Mathlib.Numerals.{add-one}
 use native.Mathlib.Omega.{arith}
 use lib.Dec.{leb}
 use borrow.Author.Tests.{leb-true, leb-false}
-use lib.ListN.{length, take, drop, getD, length-drop}
-use lib.Seq.{drop-cons, take-all, take-length}
+use lib.ListN.{length, take, drop, getD, length-append, length-drop, drop-of-length-le}
+use lib.Seq.{drop-cons, drop-drop, take-all, take-length}
+use borrow.Rule.Slice.PartMut.{putMid}
 use Rattle.model.specs.Key.{Key, maxLen}
 use Rattle.model.specs.Record.{clipped}
 use Rattle.model.specs.Refusals.{over, into}
@@ -41,6 +42,22 @@ take-min n l =
 pub into-over : (w d : List ℕ) → length w ≤ length d → into w d ≡ over w d
 unfolding into
 into-over w d h = rw (take-all (length d) w h)
+
+-- a part from a place to the end, lent and come back, stands after what is before it
+pub lent-on : (i : ℕ) (d w : List ℕ) → putMid i (length d - i) d w ≡ take i d ++ w
+lent-on i d w =
+    let h : length (drop i d) ≤ length d - i = omega (arith, length-drop i d) in
+    rw (drop-of-length-le (drop i d) h, append-nil)
+
+-- writing keeps the length
+pub length-over : (w d : List ℕ) → length w ≤ length d → length (over w d) ≡ length d
+unfolding over
+length-over w d h = rw (length-append, length-drop) (omega arith)
+
+-- what is written, and then in the rest what follows it, is both written
+pub over-append : (a b d : List ℕ) → a ++ over b (drop (length a) d) ≡ over (a ++ b) d
+unfolding over
+over-append a b d = rw (drop-drop, length-append, append-assoc)
 
 -- a key of at most 64 bytes has room in a record
 pub clipped-all : (k : Key) → length k ≤ maxLen → clipped k ≡ k

@@ -1,0 +1,3 @@
+pub mod KeyOf
+pub mod Elements
+pub mod Changing

@@ -1,0 +1,51 @@
+// Changing the prefix of a key.
+use model::Answer;
+use model::MAX_LEN;
+use model::Refusal;
+ghost use mathlib.Core.Path.{_≡_};
+ghost use mathlib.Core.List.{_++_};
+ghost use Prim.Native.Nat.{_+_, _≤_};
+ghost use lib.ListN.{length};
+ghost use Rattle.model.specs.Key.{changePrefix};
+ghost use Rattle.model.specs.Refusals.{answer, leaves, over};
+ghost use Rattle.model.specs.Calls.{changePrefixCauses};
+
+// Writes a and then b to the head of dest.
+fn join(a: &[u8], b: &[u8], dest: &mut [u8])
+    requires { ⌜ length (now a) + length (now b) ≤ length (now dest) ⌝ }
+    ensures { λ _. ⌜ now (dest .exit) ≡ over (now (a .entry) ++ now (b .entry)) (now (dest .entry)) ⌝ }
+{
+    let n = a.len();
+    records::copy(a, dest);
+    records::copy(b, &mut dest[n..]);
+}
+
+// changePrefix: the key with the old prefix changed to the new one, at the head of dest. Answers its length.
+// Refuses 2, 7, 8 and 10.
+pub fn change_prefix(key: &[u8], old: &[u8], new: &[u8], dest: &mut [u8]) -> Answer
+    ensures answered { λ r. ⌜ r ≡ answer (changePrefixCauses (now (key .entry)) (now (old .entry)) (now (new .entry)) (now (dest .entry))) (length (changePrefix (now (old .entry)) (now (new .entry)) (now (key .entry)))) ⌝ }
+    ensures written { λ r. ⌜ now (dest .exit) ≡ leaves (changePrefixCauses (now (key .entry)) (now (old .entry)) (now (new .entry)) (now (dest .entry))) (changePrefix (now (old .entry)) (now (new .entry)) (now (key .entry))) (now (dest .entry)) ⌝ }
+{
+    if MAX_LEN < key.len() {
+        return Answer::Refused(Refusal::Malformed);
+    }
+    if MAX_LEN < old.len() {
+        return Answer::Refused(Refusal::Malformed);
+    }
+    if MAX_LEN < new.len() {
+        return Answer::Refused(Refusal::Malformed);
+    }
+    if !scan::is_prefix(old, key) {
+        return Answer::Refused(Refusal::NotPrefix);
+    }
+    let p = old.len();
+    let n = new.len() + (key.len() - p);
+    if MAX_LEN < n {
+        return Answer::Refused(Refusal::TooLong);
+    }
+    if dest.len() < n {
+        return Answer::Refused(Refusal::NoRoom);
+    }
+    join(new, &key[p..], dest);
+    Answer::Value(n)
+}

@@ -1,0 +1,64 @@
+// The order of keys and of elements.
+use model::Compared;
+use model::RECORD_SIZE;
+use model::Refusal;
+ghost use mathlib.Core.Path.{_≡_};
+ghost use Rattle.model.specs.Order.{key, cmp};
+ghost use Rattle.model.specs.Record.{element};
+ghost use Rattle.model.specs.Refusals.{comparison};
+ghost use Rattle.model.specs.Calls.{compareCauses};
+
+// The order of two keys: -1, 0 or 1.
+pub fn compare_keys(a: &[u8], b: &[u8]) -> i64
+    ensures { λ r. ⌜ r ≡ cmp (key (now (a .entry))) (key (now (b .entry))) ⌝ }
+{
+    let n = scan::common_run(a, b);
+    if a.len() <= n {
+        if b.len() <= n {
+            return 0;
+        }
+        return -1;
+    }
+    if b.len() <= n {
+        return 1;
+    }
+    if a[n] < b[n] {
+        return -1;
+    }
+    1
+}
+
+// The order of what two records stand for, whatever their bytes after the key: -1, 0 or 1.
+pub fn compare_elements(a: &[u8], b: &[u8]) -> i64
+    ensures { λ r. ⌜ r ≡ cmp (element (now (a .entry))) (element (now (b .entry))) ⌝ }
+{
+    if records::is_max(a) {
+        if records::is_max(b) {
+            return 0;
+        }
+        return 1;
+    }
+    if records::is_max(b) {
+        return -1;
+    }
+    compare_keys(records::key_bytes(a), records::key_bytes(b))
+}
+
+// cmp: the order of two elements, -1, 0 or 1. Refuses 1 and 2.
+pub fn compare(a: &[u8], b: &[u8]) -> Compared
+    ensures { λ r. ⌜ r ≡ comparison (compareCauses (now (a .entry)) (now (b .entry))) (cmp (element (now (a .entry))) (element (now (b .entry)))) ⌝ }
+{
+    if a.len() != RECORD_SIZE {
+        return Compared::Refused(Refusal::Shape);
+    }
+    if b.len() != RECORD_SIZE {
+        return Compared::Refused(Refusal::Shape);
+    }
+    if !records::holds_element(a) {
+        return Compared::Refused(Refusal::Malformed);
+    }
+    if !records::holds_element(b) {
+        return Compared::Refused(Refusal::Malformed);
+    }
+    Compared::Order(compare_elements(a, b))
+}
