@@ -27,8 +27,7 @@ order-after (x ∷ a) (y ∷ b) = go (eqb x y) refl (order-after a b)
     go true e h = rw (← eqb-true x y e, lteKey-same x a b) h
     go false e h = refl
 
--- where both keys go on after the common run, they differ
-pub differ-after : (a b : Key) → length (commonRun a b) < length a → length (commonRun a b) < length b
+differ-after : (a b : Key) → length (commonRun a b) < length a → length (commonRun a b) < length b
     → getD a (length (commonRun a b)) 0 ≡ getD b (length (commonRun a b)) 0 → ⊥
 unfolding commonRun
 differ-after [] b = λ h k e. omega arith
@@ -43,13 +42,17 @@ differ-after (x ∷ a) (y ∷ b) = go (eqb x y) refl (differ-after a b)
     go true e r h k q = r (omega arith) (omega arith) q
     go false e r h k q = eqb-false x y e q
 
--- compare, by the length of the common run and the bytes after it
+-- the common run has n bytes
 module _ (a b : Key) (n : ℕ) (e : n ≡ length (commonRun a b)) where
   forth : lteKey (drop n a) (drop n b) ≡ lteKey a b
   forth = rw e (order-after a b)
 
   back : lteKey (drop n b) (drop n a) ≡ lteKey b a
   back = rw (e, common-comm a b) (order-after b a)
+
+  -- where both keys go on after the common run, they differ
+  pub differ-at : n < length a → n < length b → getD a n 0 ≡ getD b n 0 → ⊥
+  differ-at = rw e (differ-after a b)
 
   pub cmp-below : n < length a → n < length b → getD a n 0 < getD b n 0 → negsuc 0 ≡ cmp (key a) (key b)
   unfolding lte
@@ -59,11 +62,8 @@ module _ (a b : Key) (n : ℕ) (e : n ≡ length (commonRun a b)) where
   pub cmp-above : n < length a → n < length b → getD b n 0 ≤ getD a n 0 → pos 1 ≡ cmp (key a) (key b)
   unfolding lte
   cmp-above h k p =
-      let q : getD b n 0 < getD a n 0 = omega (arith, differs h k) in
+      let q : getD b n 0 < getD a n 0 = omega (arith, differ-at h k) in
       sym (cmp-more (key a) (key b) (rw (← forth, drop-step a n h, drop-step b n k, lteKey-above (getD a n 0) (getD b n 0) _ _ q)))
-    where
-      differs : n < length a → n < length b → getD a n 0 ≡ getD b n 0 → ⊥
-      differs = rw e (differ-after a b)
 
   pub cmp-longer : n < length a → length b ≤ n → pos 1 ≡ cmp (key a) (key b)
   unfolding lte lteKey

@@ -1,0 +1,68 @@
+// The prefix of a range of keys. No public function has a `requires`.
+use model::Answer;
+use model::Refusal;
+use model::MAX_LEN;
+use model::RECORD_SIZE;
+
+ghost use mathlib.Core.Path.{_≡_};
+ghost use Prim.Native.Nat.{_+_, _≤_};
+ghost use lib.Dec.{eqb};
+ghost use lib.ListN.{length};
+ghost use Rattle.model.specs.Order.{key};
+ghost use Rattle.model.specs.Record.{element};
+ghost use Rattle.model.specs.RangePrefix.{lcp, PivotLcp};
+ghost use Rattle.model.specs.Refusals.{answer};
+ghost use Rattle.model.specs.Calls.{pivotLcpCauses};
+
+// Whether y is x plus 1.
+fn is_next(x: u8, y: u8) -> bool
+    ensures { λ r. ⌜ r ≡ eqb (x + 1) y ⌝ }
+{
+    x as u16 + 1 == y as u16
+}
+
+// lcp: the length of the prefix of the range from one key up to another.
+pub fn key_range_prefix(left: &[u8], right: &[u8]) -> usize
+    ensures { λ r. ⌜ r ≡ length (lcp (now (left .entry)) (now (right .entry))) ⌝ }
+    ensures { λ r. ⌜ r ≤ length (now (left .entry)) ⌝ }
+{
+    let n = scan::common_run(left, right);
+    if left.len() <= n {
+        return n;
+    }
+    let m = n + 1;
+    if right.len() != m {
+        return n;
+    }
+    if !is_next(left[n], right[n]) {
+        return n;
+    }
+    m + scan::ff_run(&left[m..])
+}
+
+// PivotLcp up to what a record stands for, whatever the record's bytes after the key.
+pub fn range_prefix_len(left: &[u8], right: &[u8]) -> usize
+    ensures { λ r. ⌜ r ≡ length (PivotLcp (key (now (left .entry))) (element (now (right .entry)))) ⌝ }
+    ensures { λ r. ⌜ r ≤ length (now (left .entry)) ⌝ }
+{
+    if records::is_max(right) {
+        return scan::ff_run(left);
+    }
+    key_range_prefix(left, records::key_bytes(right))
+}
+
+// PivotLcp: the length of the prefix of the range from a key up to an element. Refuses 1 and 2.
+pub fn pivot_lcp(left: &[u8], right: &[u8]) -> Answer
+    ensures { λ r. ⌜ r ≡ answer (pivotLcpCauses (now (left .entry)) (now (right .entry))) (length (PivotLcp (key (now (left .entry))) (element (now (right .entry))))) ⌝ }
+{
+    if right.len() != RECORD_SIZE {
+        return Answer::Refused(Refusal::Shape);
+    }
+    if MAX_LEN < left.len() {
+        return Answer::Refused(Refusal::Malformed);
+    }
+    if !records::holds_element(right) {
+        return Answer::Refused(Refusal::Malformed);
+    }
+    Answer::Value(range_prefix_len(left, right))
+}
