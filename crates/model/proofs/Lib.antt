@@ -7,3 +7,4 @@ pub mod Record
 pub mod Records
 pub mod RangePrefix
 pub mod UpperBound
+pub mod Rows

@@ -10,3 +10,6 @@ pub mod Pivots
 pub mod Bucket
 pub mod Refusals
 pub mod Calls
+pub mod TableCalls
+pub mod ShelfList
+pub mod Rows

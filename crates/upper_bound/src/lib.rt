@@ -1,9 +1,8 @@
 // The upper bound of a prefix. No public function has a `requires`.
 use model::Answer;
-use model::Refusal;
 use model::MAX_LEN;
 use model::RECORD_SIZE;
-
+use model::Refusal;
 ghost use mathlib.Core.Path.{_≡_};
 ghost use Prim.Native.Nat.{_≤_, _<_};
 ghost use lib.IntN.{pos, predℤ};

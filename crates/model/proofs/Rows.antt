@@ -1,0 +1,27 @@
+-- The sixteen rows hold, and T's list is the one in document 01.
+use mathlib.Core.Path.{_≡_, refl}
+use mathlib.Core.List.{_++_}
+use Rattle.model.specs.Key.{changePrefix, IsPrefix}
+use Rattle.model.specs.Order.{lteKey, lte, lastPlace, LargestLte, LargestLt}
+use Rattle.model.specs.RangePrefix.{lcpright, lcp, PivotLcp}
+use Rattle.model.specs.UpperBound.{raisedAt, uncommonFrom, ShortestUncommonPrefix}
+use Rattle.model.specs.Record.{lengthField, allZero, fieldReading, reading, keyBytes, element, edgeOf, recordOf, encode, encodeEdge}
+use Rattle.model.specs.Record.{pieces, joined, records, elements, edges, encodeAll, encodeEdges}
+use Rattle.model.specs.Tables.{all, risesFrom, IsStrictlySorted, edgesFit, WFEdges, Route, CutoffForLeft, CutoffForRight}
+use Rattle.model.specs.Cuts.{SplitLeft, SplitRight, cutEdge, edgeWithin, SplitLeftEdges, SplitRightEdges}
+use Rattle.model.specs.Translation.{RevPrefixSet, ApplyPrefixSet, ComposePrefixSet}
+use Rattle.model.specs.Pivots.{TranslateElement, translateRight, TranslatePivotPairInternal}
+use Rattle.model.specs.Refusals.{first}
+use Rattle.model.specs.TableCalls.{notPivotCount, notEdgeCount, pivotsRead, edgesRead}
+use Rattle.model.specs.ShelfList.{header, dash, digit, decimal, hex, keyText, elementText, edgeText, slotLine, slotLines, tableText}
+use Rattle.model.specs.ShelfList.{listPivots, listEdges, notListSize, listCauses, shelfList}
+use Rattle.model.specs.Rows.{AllHold, rows, inputT, linesT}
+
+pub cases : AllHold rows
+unfolding changePrefix IsPrefix lteKey lte lastPlace LargestLte LargestLt lcpright lcp PivotLcp raisedAt uncommonFrom ShortestUncommonPrefix Route CutoffForLeft CutoffForRight SplitLeft SplitRight cutEdge edgeWithin SplitLeftEdges SplitRightEdges RevPrefixSet ApplyPrefixSet ComposePrefixSet TranslateElement translateRight TranslatePivotPairInternal
+cases =
+    (refl, (refl, (refl, (refl, (refl, (refl, (refl, (refl, (refl, (refl, (refl, (refl, (refl, ((refl, refl), ((refl, refl), (refl, tt))))))))))))))))
+
+pub list-of-T : shelfList inputT ≡ header ++ linesT
+unfolding lteKey lte lcpright lcp PivotLcp lengthField allZero fieldReading reading keyBytes element edgeOf recordOf encode encodeEdge pieces joined records elements edges encodeAll encodeEdges all risesFrom IsStrictlySorted edgesFit WFEdges first notPivotCount notEdgeCount pivotsRead edgesRead header dash digit decimal hex keyText elementText edgeText slotLine slotLines tableText listPivots listEdges notListSize listCauses shelfList
+list-of-T = refl
