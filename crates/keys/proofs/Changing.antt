@@ -35,24 +35,24 @@ pub prefix-inside : (p k : List ℕ) (t : Bool) → t ≡ IsPrefix p k → not t
 prefix-inside p k t e h = prefix-length p k (sym e ∙ not-false t h)
 
 -- the length that is measured is that of the changed key
-module _ (p q k : List ℕ) where
-  pub change-long : 64 < length q + (length k - length p) → tooLong (changePrefix p q k) ≡ true
-  change-long h = rw length-change (lt-ltb 64 (length q + (length k - length p)) h)
+module _ (p q k : List ℕ) (n : ℕ) (e : n ≡ length q + (length k - length p)) where
+  pub changed-length : n ≡ length (changePrefix p q k)
+  changed-length = e ∙ sym (length-change p q k)
 
-  pub change-short : length q + (length k - length p) ≤ 64 → tooLong (changePrefix p q k) ≡ false
-  change-short h = rw length-change (le-ltb 64 (length q + (length k - length p)) h)
+  pub changed-long : 64 < n → tooLong (changePrefix p q k) ≡ true
+  changed-long h = rw (← changed-length) (lt-ltb 64 n h)
 
-  pub change-out : (d : List ℕ) → length d < length q + (length k - length p) → noRoom (length (changePrefix p q k)) d ≡ true
-  change-out d h = rw length-change (lt-ltb (length d) (length q + (length k - length p)) h)
+  pub changed-short : n ≤ 64 → tooLong (changePrefix p q k) ≡ false
+  changed-short h = rw (← changed-length) (le-ltb 64 n h)
 
-  pub change-in : (d : List ℕ) → length q + (length k - length p) ≤ length d → noRoom (length (changePrefix p q k)) d ≡ false
-  change-in d h = rw length-change (le-ltb (length d) (length q + (length k - length p)) h)
+  pub changed-out : (d : List ℕ) → length d < n → noRoom (length (changePrefix p q k)) d ≡ true
+  changed-out d h = rw (← changed-length) (lt-ltb (length d) n h)
 
-  pub change-length : length q + (length k - length p) ≡ length (changePrefix p q k)
-  change-length = sym (length-change p q k)
+  pub changed-in : (d : List ℕ) → n ≤ length d → noRoom (length (changePrefix p q k)) d ≡ false
+  changed-in d h = rw (← changed-length) (le-ltb (length d) n h)
 
-  pub change-written : (d w : List ℕ) → w ≡ over (q ++ take (length k - length p) (drop (length p) k)) d → w ≡ over (changePrefix p q k) d
-  unfolding changePrefix
-  change-written d w e = rw rest at e
+pub changed-written : (p q k d w : List ℕ) → w ≡ over (q ++ take (length k - length p) (drop (length p) k)) d → w ≡ over (changePrefix p q k) d
+unfolding changePrefix
+changed-written p q k d w e = rw rest at e
 
-pub ruleset changing = (change-long, change-short, change-out, change-in, change-length, change-written)
+pub ruleset changing = (changed-length, changed-long, changed-short, changed-out, changed-in, changed-written)

@@ -4,7 +4,7 @@ use model::MAX_LEN;
 use model::Refusal;
 ghost use mathlib.Core.Path.{_≡_};
 ghost use mathlib.Core.List.{_++_};
-ghost use Prim.Native.Nat.{_+_, _≤_};
+ghost use Prim.Native.Nat.{_+_, _-_, _≤_};
 ghost use lib.ListN.{length};
 ghost use Rattle.model.specs.Key.{changePrefix};
 ghost use Rattle.model.specs.Refusals.{answer, leaves, over};
@@ -18,6 +18,17 @@ fn join(a: &[u8], b: &[u8], dest: &mut [u8])
     let n = a.len();
     records::copy(a, dest);
     records::copy(b, &mut dest[n..]);
+}
+
+// The length of a key whose prefix is changed.
+fn changed_len(key: &[u8], old: &[u8], new: &[u8]) -> usize
+    requires { ⌜ (length (now key) ≤ 64) × (length (now new) ≤ 64) ⌝ }
+    ensures { λ r. ⌜ r ≡ length (now (new .entry)) + (length (now (key .entry)) - length (now (old .entry))) ⌝ }
+{
+    if key.len() < old.len() {
+        return new.len();
+    }
+    new.len() + (key.len() - old.len())
 }
 
 // changePrefix: the key with the old prefix changed to the new one, at the head of dest. Answers its length.
@@ -35,17 +46,18 @@ pub fn change_prefix(key: &[u8], old: &[u8], new: &[u8], dest: &mut [u8]) -> Ans
     if MAX_LEN < new.len() {
         return Answer::Refused(Refusal::Malformed);
     }
-    if !scan::is_prefix(old, key) {
+    let begins = scan::is_prefix(old, key);
+    let n = changed_len(key, old, new);
+    if !begins {
         return Answer::Refused(Refusal::NotPrefix);
     }
-    let p = old.len();
-    let n = new.len() + (key.len() - p);
     if MAX_LEN < n {
         return Answer::Refused(Refusal::TooLong);
     }
     if dest.len() < n {
         return Answer::Refused(Refusal::NoRoom);
     }
+    let p = old.len();
     join(new, &key[p..], dest);
     Answer::Value(n)
 }

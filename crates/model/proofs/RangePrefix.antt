@@ -1,21 +1,21 @@
 -- The range prefix begins every key of its range, is the longest that does, and grows as the range narrows.
 use mathlib.Core.Path.{_≡_, refl, sym, ap, _∙_}
 use mathlib.Core.Logic.{⊎-elim, by-cases}
-use mathlib.Core.List.{[], _∷_}
+use mathlib.Core.List.{[], _∷_, _++_, append-nil}
 use mathlib.Core.Bool.{Bool, true, false, cond, not, true≢false}
 use Prim.Native.Nat.{ℕ, zero, suc, _+_, _≤_, _<_}
 use native.Mathlib.Nat.{le-refl, le-trans, eq-or-lt-of-le}
 use native.Mathlib.Decide.{decLe}
 use native.Mathlib.Omega.{arith}
 use lib.Dec.{eqb}
-use lib.ListN.{length, take}
+use lib.ListN.{length, take, drop}
 use borrow.Author.Tests.{eqb-true, eqb-false, ne-eqb}
 use Rattle.model.specs.Key.{Key, Bytes, IsPrefix, maxLen}
 use Rattle.model.specs.Order.{Element, key, max, lteKey, lte, lt}
 use Rattle.model.specs.RangePrefix.{lcpright, lcp, PivotLcp, InBetween}
 use Rattle.model.proofs.Order.{Lte, less, next, Lt, start<, less<, next<, to-Lte, to-Lt, from-Lte, from-Lt}
-use Rattle.model.proofs.Order.{lte-refl, lte-trans, lte-max, lt-false, lt-trans-lte}
-use Rattle.model.proofs.Prefix.{both, prefix-next, prefix-is-take, prefix-length, prefix-nested}
+use Rattle.model.proofs.Order.{lte-refl, lte-trans, lte-max, lt-lte, lt-false, lt-trans-lte, prefix-first}
+use Rattle.model.proofs.Prefix.{both, prefix-next, prefix-split, prefix-is-take, prefix-length, prefix-nested}
 
 -- what is lent in memory is bytes
 abbrev pub BytesE : Element → Type 0
@@ -110,9 +110,21 @@ unfolding lte
 from-Below k (key r) h = ap not (from-Lt h)
 from-Below k max h = refl
 
+-- a prefix of a key is not above it
+pub prefix-lte : (p k : Key) → IsPrefix p k ≡ true → lte (key p) (key k) ≡ true
+prefix-lte p k h = go (drop (length p) k) (prefix-split p k h)
+  where
+    go : (m : Key) → p ++ m ≡ k → lte (key p) (key k) ≡ true
+    go [] e = rw (← e, append-nil) (lte-refl (key p))
+    go (b ∷ m) e = rw (← e) (lt-lte (key p) (key (p ++ b ∷ m)) (prefix-first p b m))
+
 -- the range prefix begins the left key
 pub prefix-of-left : (l : Key) (r : Element) → IsPrefix (PivotLcp (key l) r) l ≡ true
 prefix-of-left l r = left (reach l r)
+
+-- and is not above it
+pub prefix-not-above : (l : Key) (r : Element) → lte (key (PivotLcp (key l) r)) (key l) ≡ true
+prefix-not-above l r = prefix-lte (PivotLcp (key l) r) l (prefix-of-left l r)
 
 -- the range prefix begins every key of its range
 pub shared : (l : Key) (r : Element) (k : Key) → Bytes k → InBetween (key l) r k ≡ true → IsPrefix (PivotLcp (key l) r) k ≡ true

@@ -10,7 +10,7 @@ use lib.Seq.{take-suc, set-at, append-snoc, length-take-le}
 use Rattle.model.specs.Key.{maxLen}
 use Rattle.model.specs.Record.{zeros, recordOf, clipped}
 use Rattle.model.specs.Refusals.{over, into}
-use Rattle.model.proofs.Lists.{drop-step, take-min}
+use Rattle.model.proofs.Lists.{drop-step, take-min, two-more}
 
 pub set-kept : (d₀ d : List ℕ) (i v : ℕ) → length d ≡ length d₀ → length (set d i v) ≡ length d₀
 set-kept d₀ d i v e = length-set d i v ∙ e
@@ -42,9 +42,6 @@ partly-start f k = refl
 
 zeros-step : (i : ℕ) → i < maxLen → zeros (maxLen - i) ≡ 0 ∷ zeros (maxLen - (i + 1))
 zeros-step i h = let e : maxLen - i ≡ suc (maxLen - (i + 1)) = omega arith in rw e
-
-two-more : (i : ℕ) → 2 + i ≡ suc (suc i)
-two-more i = omega arith
 
 cut-at : (b i : ℕ) (k : List ℕ) → i ≡ min b (length k) → take i k ++ zeros (b - i) ≡ take b k ++ zeros (b - length (take b k))
 cut-at b i k e = rw (length-take, ← e, ← take-min b k, ← e)
