@@ -6,9 +6,8 @@ ghost use mathlib.Core.Path.{_≡_};
 ghost use mathlib.Core.List.{_++_};
 ghost use Prim.Native.Nat.{_+_, _-_, _≤_};
 ghost use lib.ListN.{length};
-ghost use Rattle.model.specs.Key.{changePrefix};
-ghost use Rattle.model.specs.Refusals.{answer, leaves, over};
-ghost use Rattle.model.specs.Calls.{changePrefixCauses};
+ghost use Rattle.model.specs.Refusals.{over};
+ghost use Rattle.model.specs.Calls.{changePrefixAnswer, changePrefixLeaves};
 
 // Writes a and then b to the head of dest.
 fn join(a: &[u8], b: &[u8], dest: &mut [u8])
@@ -34,8 +33,8 @@ fn changed_len(key: &[u8], old: &[u8], new: &[u8]) -> usize
 // changePrefix: the key with the old prefix changed to the new one, at the head of dest. Answers its length.
 // Refuses 2, 7, 8 and 10.
 pub fn change_prefix(key: &[u8], old: &[u8], new: &[u8], dest: &mut [u8]) -> Answer
-    ensures answered { λ r. ⌜ r ≡ answer (changePrefixCauses (now (key .entry)) (now (old .entry)) (now (new .entry)) (now (dest .entry))) (length (changePrefix (now (old .entry)) (now (new .entry)) (now (key .entry)))) ⌝ }
-    ensures written { λ r. ⌜ now (dest .exit) ≡ leaves (changePrefixCauses (now (key .entry)) (now (old .entry)) (now (new .entry)) (now (dest .entry))) (changePrefix (now (old .entry)) (now (new .entry)) (now (key .entry))) (now (dest .entry)) ⌝ }
+    ensures answered { λ r. ⌜ r ≡ changePrefixAnswer (now (key .entry)) (now (old .entry)) (now (new .entry)) (now (dest .entry)) ⌝ }
+    ensures written { λ r. ⌜ now (dest .exit) ≡ changePrefixLeaves (now (key .entry)) (now (old .entry)) (now (new .entry)) (now (dest .entry)) ⌝ }
 {
     if MAX_LEN < key.len() {
         return Answer::Refused(Refusal::Malformed);

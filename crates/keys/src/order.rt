@@ -5,8 +5,7 @@ use model::Refusal;
 ghost use mathlib.Core.Path.{_≡_};
 ghost use Rattle.model.specs.Order.{key, cmp};
 ghost use Rattle.model.specs.Record.{element};
-ghost use Rattle.model.specs.Refusals.{comparison};
-ghost use Rattle.model.specs.Calls.{compareCauses};
+ghost use Rattle.model.specs.Calls.{compareAnswer};
 
 // The order of two keys: -1, 0 or 1.
 pub fn compare_keys(a: &[u8], b: &[u8]) -> i64
@@ -46,7 +45,7 @@ pub fn compare_elements(a: &[u8], b: &[u8]) -> i64
 
 // cmp: the order of two elements, -1, 0 or 1. Refuses 1 and 2.
 pub fn compare(a: &[u8], b: &[u8]) -> Compared
-    ensures { λ r. ⌜ r ≡ comparison (compareCauses (now (a .entry)) (now (b .entry))) (cmp (element (now (a .entry))) (element (now (b .entry)))) ⌝ }
+    ensures { λ r. ⌜ r ≡ compareAnswer (now (a .entry)) (now (b .entry)) ⌝ }
 {
     if a.len() != RECORD_SIZE {
         return Compared::Refused(Refusal::Shape);

@@ -5,15 +5,11 @@ use model::RECORD_SIZE;
 use model::Reading;
 use model::Refusal;
 ghost use mathlib.Core.Path.{_≡_};
-ghost use lib.ListN.{length};
-ghost use Rattle.model.specs.Record.{keyBytes};
-ghost use Rattle.model.specs.Bucket.{entryRecord};
-ghost use Rattle.model.specs.Refusals.{answer, part};
-ghost use Rattle.model.specs.Calls.{pivotKeyCauses, entryKeyCauses};
+ghost use Rattle.model.specs.Calls.{pivotKeyAnswer, pivotKeyPart, entryKeyAnswer, entryKeyPart};
 
 // The length of a pivot record's key. Refuses 1 and 2; max and "no edge" are 2.
 pub fn pivot_key(rec: &[u8]) -> Answer
-    ensures { λ r. ⌜ r ≡ answer (pivotKeyCauses (now (rec .entry))) (length (keyBytes (now (rec .entry)))) ⌝ }
+    ensures { λ r. ⌜ r ≡ pivotKeyAnswer (now (rec .entry)) ⌝ }
 {
     if rec.len() != RECORD_SIZE {
         return Answer::Refused(Refusal::Shape);
@@ -28,7 +24,7 @@ pub fn pivot_key(rec: &[u8]) -> Answer
 
 // The part of a pivot record that its key fills, or an empty part where pivot_key refuses.
 pub fn pivot_key_part(rec: &[u8]) -> &[u8]
-    ensures { λ r. ⌜ now r ≡ part (pivotKeyCauses (now (rec .entry))) (keyBytes (now (rec .entry))) ⌝ }
+    ensures { λ r. ⌜ now r ≡ pivotKeyPart (now (rec .entry)) ⌝ }
 {
     let found = pivot_key(rec);
     let Answer::Value(n) = found else {
@@ -40,7 +36,7 @@ pub fn pivot_key_part(rec: &[u8]) -> &[u8]
 
 // The length of an entry's key. Refuses 1 and 2; both marks are 2.
 pub fn entry_key(entry: &[u8]) -> Answer
-    ensures { λ r. ⌜ r ≡ answer (entryKeyCauses (now (entry .entry))) (length (keyBytes (entryRecord (now (entry .entry))))) ⌝ }
+    ensures { λ r. ⌜ r ≡ entryKeyAnswer (now (entry .entry)) ⌝ }
 {
     if entry.len() != ENTRY_SIZE {
         return Answer::Refused(Refusal::Shape);
@@ -50,7 +46,7 @@ pub fn entry_key(entry: &[u8]) -> Answer
 
 // The part of an entry that its key fills, or an empty part where entry_key refuses.
 pub fn entry_key_part(entry: &[u8]) -> &[u8]
-    ensures { λ r. ⌜ now r ≡ part (entryKeyCauses (now (entry .entry))) (keyBytes (entryRecord (now (entry .entry)))) ⌝ }
+    ensures { λ r. ⌜ now r ≡ entryKeyPart (now (entry .entry)) ⌝ }
 {
     if entry.len() != ENTRY_SIZE {
         return &entry[..0];

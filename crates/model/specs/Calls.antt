@@ -1,14 +1,19 @@
--- The calls on keys: for each its causes in order. The arguments are the bytes lent.
+-- The calls on keys: for each its causes in order, its answer, and what it leaves in a destination. The arguments are the bytes lent.
 use mathlib.Core.Bool.{Bool, not, _||_}
 use mathlib.Core.List.{List, [], _∷_}
 use Prim.Native.Nat.{ℕ}
 use lib.Dec.{eqb, ltb}
 use lib.ListN.{length}
 use Rattle.model.specs.declared.Refusal.the-variants.{Shape, Malformed, NotPrefix, TooLong, NoRoom}
+use Rattle.model.specs.declared.Answer.{Answer}
+use Rattle.model.specs.declared.Compared.{Compared}
 use Rattle.model.specs.Key.{Key, tooLong, IsPrefix, changePrefix}
-use Rattle.model.specs.Record.{recordSize, reading, keyReading, elementReading}
+use Rattle.model.specs.Order.{key, cmp}
+use Rattle.model.specs.Record.{recordSize, reading, keyReading, elementReading, keyBytes, element, encode}
+use Rattle.model.specs.RangePrefix.{PivotLcp}
+use Rattle.model.specs.UpperBound.{ShortestUncommonPrefix}
 use Rattle.model.specs.Bucket.{entrySize, entryRecord}
-use Rattle.model.specs.Refusals.{Cause, _⇒_}
+use Rattle.model.specs.Refusals.{Cause, _⇒_, answer, comparison, leaves, part}
 
 -- "an element isn't one record"
 abbrev pub notRecord : List ℕ → Bool
@@ -31,13 +36,28 @@ compareCauses a b =
     (notRecord a || notRecord b ⇒ Shape) ∷
     (notElement a || notElement b ⇒ Malformed) ∷ []
 
--- the key of a pivot record
+abbrev pub compareAnswer : List ℕ → List ℕ → Compared
+compareAnswer a b = comparison (compareCauses a b) (cmp (element a) (element b))
+
+-- the key of a pivot record: its length, and the part beside it
 abbrev pub pivotKeyCauses : List ℕ → List Cause
 pivotKeyCauses r = (notRecord r ⇒ Shape) ∷ (notKey r ⇒ Malformed) ∷ []
 
--- the key of an entry
+abbrev pub pivotKeyAnswer : List ℕ → Answer
+pivotKeyAnswer r = answer (pivotKeyCauses r) (length (keyBytes r))
+
+abbrev pub pivotKeyPart : List ℕ → List ℕ
+pivotKeyPart r = part (pivotKeyCauses r) (keyBytes r)
+
+-- the key of an entry: its length, and the part beside it
 abbrev pub entryKeyCauses : List ℕ → List Cause
 entryKeyCauses e = (not (eqb (length e) entrySize) ⇒ Shape) ∷ (notKey (entryRecord e) ⇒ Malformed) ∷ []
+
+abbrev pub entryKeyAnswer : List ℕ → Answer
+entryKeyAnswer e = answer (entryKeyCauses e) (length (keyBytes (entryRecord e)))
+
+abbrev pub entryKeyPart : List ℕ → List ℕ
+entryKeyPart e = part (entryKeyCauses e) (keyBytes (entryRecord e))
 
 -- changing the prefix p to q in k, into d
 abbrev pub changePrefixCauses : Key → Key → Key → List ℕ → List Cause
@@ -47,10 +67,25 @@ changePrefixCauses k p q d =
     (tooLong (changePrefix p q k) ⇒ TooLong) ∷
     (noRoom (length (changePrefix p q k)) d ⇒ NoRoom) ∷ []
 
+abbrev pub changePrefixAnswer : Key → Key → Key → List ℕ → Answer
+changePrefixAnswer k p q d = answer (changePrefixCauses k p q d) (length (changePrefix p q k))
+
+abbrev pub changePrefixLeaves : Key → Key → Key → List ℕ → List ℕ
+changePrefixLeaves k p q d = leaves (changePrefixCauses k p q d) (changePrefix p q k) d
+
 -- PivotLcp(left, right): a key and an element
 abbrev pub pivotLcpCauses : Key → List ℕ → List Cause
 pivotLcpCauses l r = (notRecord r ⇒ Shape) ∷ (tooLong l || notElement r ⇒ Malformed) ∷ []
 
+abbrev pub pivotLcpAnswer : Key → List ℕ → Answer
+pivotLcpAnswer l r = answer (pivotLcpCauses l r) (length (PivotLcp (key l) (element r)))
+
 -- ShortestUncommonPrefix(prefix), into d
 abbrev pub uncommonPrefixCauses : Key → List ℕ → List Cause
 uncommonPrefixCauses p d = (tooLong p ⇒ Malformed) ∷ (noRoom recordSize d ⇒ NoRoom) ∷ []
+
+abbrev pub uncommonPrefixAnswer : Key → List ℕ → Answer
+uncommonPrefixAnswer p d = answer (uncommonPrefixCauses p d) 1
+
+abbrev pub uncommonPrefixLeaves : Key → List ℕ → List ℕ
+uncommonPrefixLeaves p d = leaves (uncommonPrefixCauses p d) (encode (ShortestUncommonPrefix p)) d

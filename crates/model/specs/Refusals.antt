@@ -52,18 +52,25 @@ orderOr (some r) z = compared.Refused r
 unfoldable pub comparison : List Cause → ℤ → Compared
 comparison causes z = orderOr (first causes) z
 
--- each answer's number, 0 where it is accepted, and its value
-abbrev pub answerNumber : Answer → ℕ
+-- ---- answers at the boundary: a number, and a value behind a pointer
+
+-- 0 where the call is accepted, else the refusal's number
+unfoldable pub answerNumber : Answer → ℕ
 answerNumber (answers.Value n) = 0
 answerNumber (answers.Refused r) = number r
 
-abbrev pub answerValue : Answer → ℕ
-answerValue (answers.Value n) = n
-answerValue (answers.Refused r) = 0
-
-abbrev pub comparedNumber : Compared → ℕ
+unfoldable pub comparedNumber : Compared → ℕ
 comparedNumber (compared.Order z) = 0
 comparedNumber (compared.Refused r) = number r
+
+-- what stands behind the pointer afterwards: "A refusal leaves that number as it was"
+unfoldable pub told : Answer → ℕ → ℕ
+told (answers.Value n) old = n
+told (answers.Refused r) old = old
+
+unfoldable pub toldOrder : Compared → ℤ → ℤ
+toldOrder (compared.Order z) old = z
+toldOrder (compared.Refused r) old = old
 
 -- ---- bytes
 

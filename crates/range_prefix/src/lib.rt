@@ -10,8 +10,7 @@ ghost use lib.ListN.{length};
 ghost use Rattle.model.specs.Order.{key};
 ghost use Rattle.model.specs.Record.{element};
 ghost use Rattle.model.specs.RangePrefix.{lcp, PivotLcp};
-ghost use Rattle.model.specs.Refusals.{answer};
-ghost use Rattle.model.specs.Calls.{pivotLcpCauses};
+ghost use Rattle.model.specs.Calls.{pivotLcpAnswer};
 
 // Whether y is x plus 1.
 fn is_next(x: u8, y: u8) -> bool
@@ -52,7 +51,7 @@ pub fn range_prefix_len(left: &[u8], right: &[u8]) -> usize
 
 // PivotLcp: the length of the prefix of the range from a key up to an element. Refuses 1 and 2.
 pub fn pivot_lcp(left: &[u8], right: &[u8]) -> Answer
-    ensures { λ r. ⌜ r ≡ answer (pivotLcpCauses (now (left .entry)) (now (right .entry))) (length (PivotLcp (key (now (left .entry))) (element (now (right .entry))))) ⌝ }
+    ensures { λ r. ⌜ r ≡ pivotLcpAnswer (now (left .entry)) (now (right .entry)) ⌝ }
 {
     if right.len() != RECORD_SIZE {
         return Answer::Refused(Refusal::Shape);

@@ -1,6 +1,5 @@
 // The number of each refusal. No public function has a `requires`.
 use model::Refusal;
-
 ghost use mathlib.Core.Path.{_≡_};
 ghost use Rattle.model.specs.Refusals.{number};
 

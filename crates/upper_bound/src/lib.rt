@@ -9,8 +9,8 @@ ghost use lib.IntN.{pos, predℤ};
 ghost use lib.ListN.{length, getD};
 ghost use Rattle.model.specs.Record.{encode};
 ghost use Rattle.model.specs.UpperBound.{raisedAt, ShortestUncommonPrefix};
-ghost use Rattle.model.specs.Refusals.{answer, leaves, into};
-ghost use Rattle.model.specs.Calls.{uncommonPrefixCauses};
+ghost use Rattle.model.specs.Refusals.{into};
+ghost use Rattle.model.specs.Calls.{uncommonPrefixAnswer, uncommonPrefixLeaves};
 ghost use Rattle.upper_bound.specs.Walk.{upToOther};
 
 // The place of the last byte that isn't FF, or -1.
@@ -55,8 +55,8 @@ fn put_upper(p: &[u8], dest: &mut [u8])
 // ShortestUncommonPrefix: the upper bound of a prefix, as one record at the head of dest. Answers 1.
 // Refuses 2 and 10.
 pub fn shortest_uncommon_prefix(prefix: &[u8], dest: &mut [u8]) -> Answer
-    ensures answered { λ r. ⌜ r ≡ answer (uncommonPrefixCauses (now (prefix .entry)) (now (dest .entry))) 1 ⌝ }
-    ensures written { λ r. ⌜ now (dest .exit) ≡ leaves (uncommonPrefixCauses (now (prefix .entry)) (now (dest .entry))) (encode (ShortestUncommonPrefix (now (prefix .entry)))) (now (dest .entry)) ⌝ }
+    ensures answered { λ r. ⌜ r ≡ uncommonPrefixAnswer (now (prefix .entry)) (now (dest .entry)) ⌝ }
+    ensures written { λ r. ⌜ now (dest .exit) ≡ uncommonPrefixLeaves (now (prefix .entry)) (now (dest .entry)) ⌝ }
 {
     if MAX_LEN < prefix.len() {
         return Answer::Refused(Refusal::Malformed);
