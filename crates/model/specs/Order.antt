@@ -41,6 +41,10 @@ same a b = lte a b && lte b a
 unfoldable pub cmp : Element → Element → ℤ
 cmp a b = cond (lt a b) (negsuc 0) (cond (lt b a) (pos 1) (pos 0))
 
+-- p is not above e or, where strict, below it
+abbrev pub passes : Bool → Element → Element → Bool
+passes strict e p = cond strict (lt p e) (lte p e)
+
 -- one more than the last place that passes the test, or 0 where none does
 unfoldable pub lastPlace {ℓ} : {A : Type ℓ} → (A → Bool) → List A → ℕ
 lastPlace test [] = 0
@@ -48,7 +52,7 @@ lastPlace test (x ∷ xs) = cond (ltb 0 (lastPlace test xs)) (suc (lastPlace tes
 
 -- "LargestLte and LargestLt give the last place not above, or below"; asked only where there is one
 unfoldable pub LargestLte : List Element → Element → ℕ
-LargestLte pt e = lastPlace (λ (p : Element). lte p e) pt - 1
+LargestLte pt e = lastPlace (passes false e) pt - 1
 
 unfoldable pub LargestLt : List Element → Element → ℕ
-LargestLt pt e = lastPlace (λ (p : Element). lt p e) pt - 1
+LargestLt pt e = lastPlace (passes true e) pt - 1

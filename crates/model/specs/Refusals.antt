@@ -11,6 +11,10 @@ use Rattle.model.specs.declared.Answer.{Answer}
 use Rattle.model.specs.declared.Answer.the-variants as answers
 use Rattle.model.specs.declared.Compared.{Compared}
 use Rattle.model.specs.declared.Compared.the-variants as compared
+use Rattle.model.specs.declared.Decided.{Decided}
+use Rattle.model.specs.declared.Decided.the-variants as decided
+use Rattle.model.specs.declared.Routed.{Routed}
+use Rattle.model.specs.declared.Routed.the-variants as routed
 
 infix 5 _⇒_
 -- the numbers of the table "Refusals"
@@ -51,6 +55,21 @@ orderOr (some r) z = compared.Refused r
 
 unfoldable pub comparison : List Cause → ℤ → Compared
 comparison causes z = orderOr (first causes) z
+
+abbrev pub decidedOr : Option Refusal → Bool → Decided
+decidedOr none true = decided.Yes
+decidedOr none false = decided.No
+decidedOr (some r) b = decided.Refused r
+
+unfoldable pub decision : List Cause → Bool → Decided
+decision causes b = decidedOr (first causes) b
+
+abbrev pub slotOr : Option Refusal → ℕ → Routed
+slotOr none n = routed.Slot n
+slotOr (some r) n = routed.Refused r
+
+unfoldable pub routing : List Cause → ℕ → Routed
+routing causes n = slotOr (first causes) n
 
 -- ---- answers at the boundary: a number, and a value behind a pointer
 

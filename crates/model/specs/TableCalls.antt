@@ -1,14 +1,20 @@
--- Tables as lent bytes: when causes 1 to 4 apply to them.
+-- The calls on tables: when causes 1 to 4 apply to lent bytes, and for each call its causes in order and its answer.
 use mathlib.Core.Bool.{Bool, true, false, cond, not, _&&_, _||_}
 use mathlib.Core.List.{List, [], _∷_, _++_}
-use Prim.Native.Nat.{ℕ, _+_, _/_, _%_}
-use lib.Dec.{eqb, leb}
+use Prim.Native.Nat.{ℕ, _+_, _*_, _/_, _%_}
+use lib.Dec.{eqb, leb, ltb}
 use lib.ListN.{length}
-use Rattle.model.specs.declared.Refusal.the-variants.{Shape, Malformed, Unsorted, EmptyPrefix}
-use Rattle.model.specs.Key.{isNil}
-use Rattle.model.specs.Record.{recordSize, reading, keyReading, elementReading, edgeReading, records, elements, edges}
-use Rattle.model.specs.Tables.{minPivots, maxPivots, all, IsStrictlySorted, WFEdges}
-use Rattle.model.specs.Refusals.{Cause, _⇒_}
+use Rattle.model.specs.declared.Refusal.the-variants.{Shape, Malformed, Unsorted, EmptyPrefix, OutOfRange, NoSuchSlot, NotBelow, NoRoom}
+use Rattle.model.specs.declared.Answer.{Answer}
+use Rattle.model.specs.declared.Decided.{Decided}
+use Rattle.model.specs.declared.Routed.{Routed}
+use Rattle.model.specs.Key.{Key, isNil, tooLong}
+use Rattle.model.specs.Order.{key, isKey, lt}
+use Rattle.model.specs.Record.{recordSize, reading, keyReading, elementReading, edgeReading, records, element, elements, edges, encodeAll}
+use Rattle.model.specs.Tables.{PivotTable, minPivots, maxPivots, all, pivotAt, IsStrictlySorted, WFEdges, ContainsAllKeys, ContainsRange}
+use Rattle.model.specs.Tables.{BoundedKey, ValidLeftCutOffKey, PivotInsertable, GetKey, InitPivotTable, Route, CutoffForLeft, CutoffForRight}
+use Rattle.model.specs.Refusals.{Cause, _⇒_, answer, decision, routing, leaves, part}
+use Rattle.model.specs.Calls.{notRecord, notElement, noRoom}
 
 -- "A slice isn't whole records, a count is outside its limits"
 unfoldable pub notPivotCount : List ℕ → Bool
@@ -39,3 +45,75 @@ abbrev pub tableCauses : Bool → Bool → List ℕ → List ℕ → List Cause
 tableCauses shape wrong p e =
     pivotCauses (shape || notEdgeCount p e) (wrong || not (edgesRead (records e))) p
     ++ ((not (WFEdges (edges e) (elements p)) ⇒ EmptyPrefix) ∷ [])
+
+-- WFPivots and WFEdges: "yes, or the number"
+abbrev pub wfPivotsAnswer : List ℕ → Decided
+wfPivotsAnswer p = decision (pivotCauses false false p) true
+
+abbrev pub wfEdgesAnswer : List ℕ → List ℕ → Decided
+wfEdgesAnswer p e = decision (tableCauses false false p e) true
+
+-- ---- questions
+
+abbrev pub containsAllKeysAnswer : List ℕ → Decided
+containsAllKeysAnswer p = decision (pivotCauses false false p) (ContainsAllKeys (elements p))
+
+-- the range is a key and an element, the key below the element
+abbrev pub containsRangeCauses : List ℕ → Key → List ℕ → List Cause
+containsRangeCauses p l r =
+    pivotCauses (notRecord r) (tooLong l || notElement r) p ++ ((not (lt (key l) (element r)) ⇒ NotBelow) ∷ [])
+
+abbrev pub containsRangeAnswer : List ℕ → Key → List ℕ → Decided
+containsRangeAnswer p l r = decision (containsRangeCauses p l r) (ContainsRange (elements p) (key l) (element r))
+
+-- a table and a key
+abbrev pub keyCauses : List ℕ → Key → List Cause
+keyCauses p k = pivotCauses false (tooLong k) p
+
+abbrev pub boundedKeyAnswer : List ℕ → Key → Decided
+boundedKeyAnswer p k = decision (keyCauses p k) (BoundedKey (elements p) k)
+
+abbrev pub validLeftCutOffKeyAnswer : List ℕ → Key → Decided
+validLeftCutOffKeyAnswer p k = decision (keyCauses p k) (ValidLeftCutOffKey (elements p) k)
+
+abbrev pub pivotInsertableAnswer : List ℕ → ℕ → Key → Decided
+pivotInsertableAnswer p i k = decision (keyCauses p k) (PivotInsertable (elements p) i k)
+
+-- ---- GetKey: "a place isn't below the pivot count or holds max"
+
+abbrev pub noKeyAt : PivotTable → ℕ → Bool
+noKeyAt pt i = not (ltb i (length pt) && isKey (pivotAt pt i))
+
+abbrev pub getKeyCauses : List ℕ → ℕ → List Cause
+getKeyCauses p i = pivotCauses false false p ++ ((noKeyAt (elements p) i ⇒ NoSuchSlot) ∷ [])
+
+abbrev pub getKeyAnswer : List ℕ → ℕ → Answer
+getKeyAnswer p i = answer (getKeyCauses p i) (length (GetKey (elements p) i))
+
+abbrev pub getKeyPart : List ℕ → ℕ → List ℕ
+getKeyPart p i = part (getKeyCauses p i) (GetKey (elements p) i)
+
+-- ---- InitPivotTable, into d
+
+abbrev pub initPivotTableCauses : List ℕ → List Cause
+initPivotTableCauses d = (noRoom (minPivots * recordSize) d ⇒ NoRoom) ∷ []
+
+abbrev pub initPivotTableAnswer : List ℕ → Answer
+initPivotTableAnswer d = answer (initPivotTableCauses d) minPivots
+
+abbrev pub initPivotTableLeaves : List ℕ → List ℕ
+initPivotTableLeaves d = leaves (initPivotTableCauses d) (encodeAll InitPivotTable) d
+
+-- ---- Route, CutoffForLeft, CutoffForRight: the slot, or 5 where `inside` does not hold
+
+abbrev pub slotCauses : List ℕ → Key → Bool → List Cause
+slotCauses p k inside = keyCauses p k ++ ((not inside ⇒ OutOfRange) ∷ [])
+
+abbrev pub routeAnswer : List ℕ → Key → Routed
+routeAnswer p k = routing (slotCauses p k (BoundedKey (elements p) k)) (Route (elements p) k)
+
+abbrev pub cutoffForLeftAnswer : List ℕ → Key → Routed
+cutoffForLeftAnswer p k = routing (slotCauses p k (ValidLeftCutOffKey (elements p) k)) (CutoffForLeft (elements p) k)
+
+abbrev pub cutoffForRightAnswer : List ℕ → Key → Routed
+cutoffForRightAnswer p k = routing (slotCauses p k (BoundedKey (elements p) k)) (CutoffForRight (elements p) k)

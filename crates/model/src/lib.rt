@@ -1,12 +1,16 @@
 // What every crate shares by name: the limits, the refusals, and the answers of the calls.
 // This crate has no function. Its definitions are in specs/, its laws in proofs/.
 
-// The limits of specs/Record.antt and specs/Tables.antt, for use in code.
+// The limits of specs/Key, Record, Bucket and Tables, for use in code.
 pub const MAX_LEN: usize = 64;
 
 pub const RECORD_SIZE: usize = 66;
 
 pub const ENTRY_SIZE: usize = 70;
+
+pub const MIN_PIVOTS: usize = 2;
+
+pub const MAX_PIVOTS: usize = 64;
 
 // Why a call refuses. `number` in specs/Refusals.antt gives each its number.
 pub enum Refusal {
@@ -31,6 +35,19 @@ pub enum Answer {
 // What compare answers: -1, 0 or 1.
 pub enum Compared {
     Order(i64),
+    Refused(Refusal),
+}
+
+// What a question answers.
+pub enum Decided {
+    Yes,
+    No,
+    Refused(Refusal),
+}
+
+// What routing answers: the slot.
+pub enum Routed {
+    Slot(usize),
     Refused(Refusal),
 }
 
