@@ -14,12 +14,13 @@ use lib.Seq.{length-take-le}
 use Rattle.model.specs.declared.Reading.{Reading}
 use Rattle.model.specs.declared.Reading.the-variants.{Key, Malformed, NoEdge, Max}
 use Rattle.model.specs.Record.{recordSize, reading, keyReading, keyBytes}
+use Rattle.model.specs.declared.Refusal.{Refusal}
 use Rattle.model.specs.declared.Answer.{Answer}
 use Rattle.model.specs.declared.Answer.the-variants.{Value}
-use Rattle.model.specs.Bucket.{entrySize, entryRecord}
-use Rattle.model.specs.Refusals.{first, answer, part}
-use Rattle.model.specs.Calls.{notRecord, pivotKeyCauses, entryKeyCauses}
-use Rattle.model.proofs.Causes.{first-later, accepted, none-here, part-accepted}
+use Rattle.model.specs.Bucket.{entrySize}
+use Rattle.model.specs.Refusals.{outcome, answer, part}
+use Rattle.model.specs.Calls.{notRecord, pivotKeyCauses, pivotKeyAnswer, pivotKeyPart, entryKeyCauses, entryKeyAnswer, entryKeyPart}
+use Rattle.model.proofs.Causes.{passed, accepted, value-is, none-here}
 use Rattle.model.proofs.Lists.{take-min}
 use Rattle.model.proofs.Record.{key-read}
 
@@ -54,10 +55,10 @@ module _ (r : List ℕ) (a : Answer) (m : ℕ) (e : a ≡ answer (pivotKeyCauses
   size : length r ≡ recordSize
   size =
       let n = accepted (pivotKeyCauses r) (length (keyBytes r)) a e m h in
-      eqb-true (length r) recordSize (not-false (eqb (length r) recordSize) (none-here _ _ _ (n .none-applies)))
+      eqb-true (length r) recordSize (not-false (eqb (length r) recordSize) (none-here _ _ _ n))
 
   filled : m ≡ length (keyBytes r)
-  filled = accepted (pivotKeyCauses r) (length (keyBytes r)) a e m h .value
+  filled = value-is (pivotKeyCauses r) (length (keyBytes r)) a e m h
 
   pub end-inside : 2 + m ≤ length r
   end-inside = omega (arith, size, filled, bytes-short r size)
@@ -68,7 +69,7 @@ module _ (r : List ℕ) (a : Answer) (m : ℕ) (e : a ≡ answer (pivotKeyCauses
   pub key-fills : take (2 + m - 2) (drop 2 r) ≡ part (pivotKeyCauses r) (keyBytes r)
   unfolding keyBytes
   key-fills =
-      part-accepted (pivotKeyCauses r) (length (keyBytes r)) a e (keyBytes r) (take (2 + m - 2) (drop 2 r)) m h
+      passed _ (keyBytes r) (take (2 + m - 2) (drop 2 r)) (pivotKeyCauses r) (accepted (pivotKeyCauses r) (length (keyBytes r)) a e m h)
       (rw (add-sub-cancel-left 2 m, filled, length-take, take-min))
 
 -- ---- the record at the head of an entry
@@ -77,19 +78,16 @@ module _ (e : List ℕ) (h : length e ≡ 70) where
   pub entry-room : 66 ≡ length (take 66 e)
   entry-room = sym (length-take-le 66 e (omega arith))
 
-  -- the record at its head has the same causes
-  same-first : first (entryKeyCauses e) ≡ first (pivotKeyCauses (take 66 e))
-  same-first =
+  -- the record at its head has the same outcome
+  same-outcome : {A : Type 0} (f : Refusal → A) (v : A) → outcome f (pivotKeyCauses (take 66 e)) v ≡ outcome f (entryKeyCauses e) v
+  unfolding outcome
+  same-outcome f v =
       let p : not (eqb (length e) entrySize) ≡ false = rw h in
       let q : notRecord (take 66 e) ≡ false = rw (← entry-room) in
-      first-later _ _ _ p ∙ sym (first-later _ _ _ q)
+      rw (p, q)
 
-  pub entry-answer : (a : Answer) → a ≡ answer (pivotKeyCauses (take 66 e)) (length (keyBytes (take 66 e)))
-      → a ≡ answer (entryKeyCauses e) (length (keyBytes (entryRecord e)))
-  unfolding answer
-  entry-answer a q = rw same-first q
+  pub entry-answer : (a : Answer) → a ≡ pivotKeyAnswer (take 66 e) → a ≡ entryKeyAnswer e
+  entry-answer a q = q ∙ same-outcome _ _
 
-  pub entry-part : (x : List ℕ) → x ≡ part (pivotKeyCauses (take 66 e)) (keyBytes (take 66 e))
-      → x ≡ part (entryKeyCauses e) (keyBytes (entryRecord e))
-  unfolding part
-  entry-part x q = rw same-first q
+  pub entry-part : (x : List ℕ) → x ≡ pivotKeyPart (take 66 e) → x ≡ entryKeyPart e
+  entry-part x q = q ∙ same-outcome _ _

@@ -1,122 +1,140 @@
--- How a call's answer is found in its ordered list of causes: a cause that applies ends the list, one that does not is passed.
+-- How a call's outcome is found in its ordered list of causes: a cause that applies ends the list, one that does not is passed.
 use mathlib.Core.Path.{_≡_, refl, sym, ap, _∙_}
-use mathlib.Core.Bool.{Bool, true, false, not, _||_, or-true}
-use mathlib.Core.List.{List, [], _∷_}
+use mathlib.Core.Bool.{Bool, true, false, cond, not, _||_, or-true}
+use mathlib.Core.List.{List, [], _∷_, _++_, append-nil}
 use mathlib.Core.Option.{Option, none, some}
 use Prim.Native.Nat.{ℕ}
-use native.Mathlib.Omega.{arith}
 use lib.IntN.{ℤ}
-use borrow.Author.Tests.{lt-ltb, le-ltb, eq-eqb, ne-eqb}
+use native.Mathlib.Omega.{arith}
+use borrow.Author.Tests.{lt-ltb, le-ltb, le-leb, lt-leb, eq-eqb, ne-eqb}
 use Rattle.model.specs.declared.Refusal.{Refusal}
 use Rattle.model.specs.declared.Answer.{Answer}
 use Rattle.model.specs.declared.Answer.the-variants as answers
 use Rattle.model.specs.declared.Compared.{Compared}
 use Rattle.model.specs.declared.Compared.the-variants as compared
-use Rattle.model.specs.Refusals.{Cause, _⇒_, first, answer, comparison, over, leaves, part}
+use Rattle.model.specs.declared.Routed.{Routed}
+use Rattle.model.specs.declared.Routed.the-variants as routed
+use Rattle.model.specs.Refusals.{Cause, _⇒_, outcome, first, answer}
 
--- a cause that applies is the first
-pub first-here : (b : Bool) (r : Refusal) (cs : List Cause) → b ≡ true → first ((b ⇒ r) ∷ cs) ≡ some r
-unfolding first
-first-here b r cs h = rw h
+module _ {A : Type 0} (f : Refusal → A) (v x : A) where
+  -- a cause that applies makes the outcome
+  pub here : (b : Bool) (r : Refusal) (cs : List Cause) → b ≡ true → x ≡ f r → x ≡ outcome f ((b ⇒ r) ∷ cs) v
+  unfolding outcome
+  here b r cs h e = rw h e
 
--- one that does not apply is passed
-pub first-later : (b : Bool) (r : Refusal) (cs : List Cause) → b ≡ false → first ((b ⇒ r) ∷ cs) ≡ first cs
-unfolding first
-first-later b r cs h = rw h
+  -- one that does not apply is passed
+  pub later : (b : Bool) (r : Refusal) (cs : List Cause) → b ≡ false → x ≡ outcome f cs v → x ≡ outcome f ((b ⇒ r) ∷ cs) v
+  unfolding outcome
+  later b r cs h e = rw h e
 
-module _ (b : Bool) (r : Refusal) (cs : List Cause) where
-  pub answer-here : (n : ℕ) → b ≡ true → answers.Refused r ≡ answer ((b ⇒ r) ∷ cs) n
-  unfolding answer
-  answer-here n h = rw (first-here b r cs h)
+  -- with no cause left it is the value
+  pub done : x ≡ v → x ≡ outcome f [] v
+  unfolding outcome
+  done e = e
 
-  pub answer-later : (n : ℕ) (a : Answer) → b ≡ false → a ≡ answer cs n → a ≡ answer ((b ⇒ r) ∷ cs) n
-  unfolding answer
-  answer-later n a h e = rw (first-later b r cs h) e
+pub value-done : (f : Refusal → Answer) (m n : ℕ) → m ≡ n → answers.Value m ≡ outcome f [] (answers.Value n)
+value-done f m n e = done f _ _ (ap answers.Value e)
 
-  pub comparison-here : (z : ℤ) → b ≡ true → compared.Refused r ≡ comparison ((b ⇒ r) ∷ cs) z
-  unfolding comparison
-  comparison-here z h = rw (first-here b r cs h)
+pub order-done : (f : Refusal → Compared) (x z : ℤ) → x ≡ z → compared.Order x ≡ outcome f [] (compared.Order z)
+order-done f x z e = done f _ _ (ap compared.Order e)
 
-  pub comparison-later : (z : ℤ) (a : Compared) → b ≡ false → a ≡ comparison cs z → a ≡ comparison ((b ⇒ r) ∷ cs) z
-  unfolding comparison
-  comparison-later z a h e = rw (first-later b r cs h) e
+pub slot-done : (f : Refusal → Routed) (m n : ℕ) → m ≡ n → routed.Slot m ≡ outcome f [] (routed.Slot n)
+slot-done f m n e = done f _ _ (ap routed.Slot e)
 
-  pub leaves-here : (w d : List ℕ) → b ≡ true → d ≡ leaves ((b ⇒ r) ∷ cs) w d
-  unfolding leaves
-  leaves-here w d h = rw (first-here b r cs h)
+-- what the first cause that applies makes of w
+abbrev byFirst : {A : Type 0} → (Refusal → A) → Option Refusal → A → A
+byFirst f none w = w
+byFirst f (some r) w = f r
 
-  pub leaves-later : (w d x : List ℕ) → b ≡ false → x ≡ leaves cs w d → x ≡ leaves ((b ⇒ r) ∷ cs) w d
-  unfolding leaves
-  leaves-later w d x h e = rw (first-later b r cs h) e
+-- the causes of a list come before those that follow it
+in-turn : {A : Type 0} (f : Refusal → A) (v : A) (cs ds : List Cause) → outcome f (cs ++ ds) v ≡ byFirst f (first cs) (outcome f ds v)
+unfolding outcome
+in-turn f v [] ds = refl
+in-turn f v ((b ⇒ r) ∷ cs) ds = go b (in-turn f v cs ds)
+  where
+    go : (b : Bool) → outcome f (cs ++ ds) v ≡ byFirst f (first cs) (outcome f ds v)
+        → cond b (f r) (outcome f (cs ++ ds) v) ≡ byFirst f (cond b (some r) (first cs)) (outcome f ds v)
+    go true e = refl
+    go false e = e
 
-  pub part-here : (k : List ℕ) → b ≡ true → [] ≡ part ((b ⇒ r) ∷ cs) k
-  unfolding part
-  part-here k h = rw (first-here b r cs h)
+whole : {A : Type 0} (f : Refusal → A) (v : A) (cs : List Cause) → outcome f cs v ≡ byFirst f (first cs) v
+unfolding outcome
+whole f v cs = rw append-nil at (in-turn f v cs [])
 
-  pub part-later : (k x : List ℕ) → b ≡ false → x ≡ part cs k → x ≡ part ((b ⇒ r) ∷ cs) k
-  unfolding part
-  part-later k x h e = rw (first-later b r cs h) e
+module _ {A : Type 0} (f : Refusal → A) (v x : A) (cs : List Cause) where
+  -- the first cause that applies makes the outcome
+  pub refused-by : (r : Refusal) → first cs ≡ some r → x ≡ f r → x ≡ outcome f cs v
+  refused-by r h e = rw (whole f v cs, h) e
 
-pub answer-done : (m n : ℕ) → m ≡ n → answers.Value m ≡ answer [] n
-unfolding answer first
-answer-done m n e = ap answers.Value e
+  -- also where other causes follow
+  pub refused-first : (ds : List Cause) (r : Refusal) → first cs ≡ some r → x ≡ f r → x ≡ outcome f (cs ++ ds) v
+  refused-first ds r h e = rw (in-turn f v cs ds, h) e
 
-pub comparison-done : (x z : ℤ) → x ≡ z → compared.Order x ≡ comparison [] z
-unfolding comparison first
-comparison-done x z e = ap compared.Order e
+  -- causes none of which applies are passed together
+  pub after : (ds : List Cause) → first cs ≡ none → x ≡ outcome f ds v → x ≡ outcome f (cs ++ ds) v
+  after ds h e = rw (in-turn f v cs ds, h) e
 
-pub leaves-done : (w d x : List ℕ) → x ≡ over w d → x ≡ leaves [] w d
-unfolding leaves first
-leaves-done w d x e = e
-
-pub part-done : (k x : List ℕ) → x ≡ k → x ≡ part [] k
-unfolding part first
-part-done k x e = e
-
--- ---- what an inner call's answer says of its causes
-
--- a value says that no cause applies, and which value it is
-pub record Accepted (cs : List Cause) (n m : ℕ) : Type 0 where
-  pub none-applies : first cs ≡ none
-  pub value : m ≡ n
+  -- and so is a whole list
+  pub passed : first cs ≡ none → x ≡ v → x ≡ outcome f cs v
+  passed h e = rw (whole f v cs, h) e
 
 -- where no cause applies, the first does not
 pub none-here : (b : Bool) (r : Refusal) (cs : List Cause) → first ((b ⇒ r) ∷ cs) ≡ none → b ≡ false
-unfolding first
+unfolding outcome
 none-here true r cs h = let z : _≡_ {A = ℕ} 0 1 = cc in absurd (omega arith)
 none-here false r cs h = refl
 
 -- nor any after it
 pub none-later : (b : Bool) (r : Refusal) (cs : List Cause) → first ((b ⇒ r) ∷ cs) ≡ none → first cs ≡ none
-none-later b r cs h = sym (first-later b r cs (none-here b r cs h)) ∙ h
+unfolding outcome
+none-later true r cs h = let z : _≡_ {A = ℕ} 0 1 = cc in absurd (omega arith)
+none-later false r cs h = h
+
+-- ---- what an inner call's answer says of its causes
 
 module _ (cs : List Cause) (n : ℕ) (a : Answer) (e : a ≡ answer cs n) where
-  pub accepted : (m : ℕ) → a ≡ answers.Value m → Accepted cs n m
-  unfolding answer
+  -- a value says that no cause applies
+  pub accepted : (m : ℕ) → a ≡ answers.Value m → first cs ≡ none
   accepted m h = go (first cs) refl
     where
-      go : (o : Option Refusal) → first cs ≡ o → Accepted cs n m
-      go none f =
-          let p : answers.Value n ≡ answers.Value m = rw (← h, e, f) in
-          record { none-applies = f; value = cc }
-      go (some r) f = let p : answers.Refused r ≡ answers.Value m = rw (← h, e, f) in let z : _≡_ {A = ℕ} 0 1 = cc in absurd (omega arith)
+      go : (o : Option Refusal) → first cs ≡ o → first cs ≡ none
+      go none f = f
+      go (some r) f =
+          let p = refused-by answers.Refused (answers.Value n) (answers.Refused r) cs r f refl in
+          let z : _≡_ {A = ℕ} 0 1 = cc in absurd (omega arith)
 
+  -- and which value it is
+  pub value-is : (m : ℕ) → a ≡ answers.Value m → m ≡ n
+  value-is m h = let p = passed answers.Refused (answers.Value n) (answers.Value n) cs (accepted m h) refl in cc
+
+  -- a refusal is the first cause that applies
   pub refused : (r : Refusal) → a ≡ answers.Refused r → first cs ≡ some r
-  unfolding answer
   refused r h = go (first cs) refl
     where
       go : (o : Option Refusal) → first cs ≡ o → first cs ≡ some r
-      go none f = let p : answers.Value n ≡ answers.Refused r = rw (← h, e, f) in let z : _≡_ {A = ℕ} 0 1 = cc in absurd (omega arith)
-      go (some s) f = let p : answers.Refused s ≡ answers.Refused r = rw (← h, e, f) in f ∙ cc
+      go none f =
+          let p = passed answers.Refused (answers.Value n) (answers.Value n) cs f refl in
+          let z : _≡_ {A = ℕ} 0 1 = cc in absurd (omega arith)
+      go (some s) f =
+          let p = refused-by answers.Refused (answers.Value n) (answers.Refused s) cs s f refl in
+          f ∙ cc
 
-  -- the part beside a call: empty where that call refuses
-  pub part-refused : (k : List ℕ) (r : Refusal) → a ≡ answers.Refused r → [] ≡ part cs k
-  unfolding part
-  part-refused k r h = rw (refused r h)
+  module _ {A : Type 0} (f : Refusal → A) (v x : A) where
+    -- the refusal of an inner call is handed on
+    pub handed-on : (r : Refusal) → a ≡ answers.Refused r → x ≡ f r → x ≡ outcome f cs v
+    handed-on r h q = refused-by f v x cs r (refused r h) q
 
-  pub part-accepted : (k x : List ℕ) (m : ℕ) → a ≡ answers.Value m → x ≡ k → x ≡ part cs k
-  unfolding part
-  part-accepted k x m h q = rw (accepted m h .none-applies) q
+    -- also where the outer call has more causes
+    pub handed-on-first : (ds : List Cause) (r : Refusal) → a ≡ answers.Refused r → x ≡ f r → x ≡ outcome f (cs ++ ds) v
+    handed-on-first ds r h q = refused-first f v x cs ds r (refused r h) q
+
+    -- an inner call that is accepted leaves the value
+    pub call-passed : (m : ℕ) → a ≡ answers.Value m → x ≡ v → x ≡ outcome f cs v
+    call-passed m h q = passed f v x cs (accepted m h) q
+
+    -- or the causes that follow
+    pub call-passed-first : (ds : List Cause) (m : ℕ) → a ≡ answers.Value m → x ≡ outcome f ds v → x ≡ outcome f (cs ++ ds) v
+    call-passed-first ds m h q = after f v x cs ds (accepted m h) q
 
 -- ---- whether a cause applies, by the tests of the code
 
@@ -144,6 +162,8 @@ not-call-false t b e h = rw e at h
 
 pub ruleset tests = (lt-ltb, le-ltb, eq-eqb, ne-eqb, or-left, or-right, or-neither, not-holds, not-fails, not-call, not-call-false)
 
-pub ruleset answering = (answer-here, answer-later, answer-done, comparison-here, comparison-later, comparison-done, tests)
+-- an outcome by tests of the code
+pub ruleset answering = (refl, value-done, order-done, slot-done, here, later, done, tests)
 
-pub ruleset leaving = (leaves-here, leaves-later, leaves-done, part-here, part-later, part-done, tests)
+-- an outcome after a call whose answer is handed on or passed
+pub ruleset handing-on = (handed-on, handed-on-first, call-passed, call-passed-first, answering)

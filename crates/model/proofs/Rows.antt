@@ -11,8 +11,8 @@ use Rattle.model.specs.Tables.{all, risesFrom, IsStrictlySorted, edgesFi
 use Rattle.model.specs.Cuts.{SplitLeft, SplitRight, cutEdge, edgeWithin, SplitLeftEdges, SplitRightEdges}
 use Rattle.model.specs.Translation.{RevPrefixSet, ApplyPrefixSet, ComposePrefixSet}
 use Rattle.model.specs.Pivots.{TranslateElement, translateRight, TranslatePivotPairInternal}
-use Rattle.model.specs.Refusals.{first}
-use Rattle.model.specs.TableCalls.{notPivotCount, notEdgeCount, pivotsRead, edgesRead}
+use Rattle.model.specs.Refusals.{outcome}
+use Rattle.model.specs.TableCalls.{notPivotCount, notEdgeCount, pivotsRead, edgesRead, pivotCauses, tableCauses}
 use Rattle.model.specs.ShelfList.{header, dash, digit, decimal, hex, keyText, elementText, edgeText, slotLine, slotLines, tableText}
 use Rattle.model.specs.ShelfList.{listPivots, listEdges, notListSize, listCauses, shelfList}
 use Rattle.model.specs.Rows.{AllHold, rows, inputT, linesT}
@@ -23,5 +23,5 @@ cases =
     (refl, (refl, (refl, (refl, (refl, (refl, (refl, (refl, (refl, (refl, (refl, (refl, (refl, ((refl, refl), ((refl, refl), (refl, tt))))))))))))))))
 
 pub list-of-T : shelfList inputT ≡ header ++ linesT
-unfolding lteKey lte lcpright lcp PivotLcp lengthField allZero fieldReading reading keyBytes element edgeOf recordOf encode encodeEdge pieces joined records elements edges encodeAll encodeEdges all risesFrom IsStrictlySorted edgesFit WFEdges first notPivotCount notEdgeCount pivotsRead edgesRead header dash digit decimal hex keyText elementText edgeText slotLine slotLines tableText listPivots listEdges notListSize listCauses shelfList
+unfolding lteKey lte lcpright lcp PivotLcp lengthField allZero fieldReading reading keyBytes element edgeOf recordOf encode encodeEdge pieces joined records elements edges encodeAll encodeEdges all risesFrom IsStrictlySorted edgesFit WFEdges outcome pivotCauses tableCauses notPivotCount notEdgeCount pivotsRead edgesRead header dash digit decimal hex keyText elementText edgeText slotLine slotLines tableText listPivots listEdges notListSize listCauses shelfList
 list-of-T = refl

@@ -34,42 +34,31 @@ number NoRoom = 10
 pub data Cause : Type 0 where
   _⇒_ : Bool → Refusal → Cause
 
--- "The smallest number that applies is answered": a call lists its causes in that order
-unfoldable pub first : List Cause → Option Refusal
-first [] = none
-first ((applies ⇒ r) ∷ causes) = cond applies (some r) (first causes)
+-- "The smallest number that applies is answered": a call lists its causes in order, and the first that applies makes the outcome
+unfoldable pub outcome : {A : Type 0} → (Refusal → A) → List Cause → A → A
+outcome refused [] value = value
+outcome refused ((applies ⇒ r) ∷ causes) value = cond applies (refused r) (outcome refused causes value)
 
--- ---- answers
+abbrev pub first : List Cause → Option Refusal
+first causes = outcome some causes none
 
-abbrev pub valueOr : Option Refusal → ℕ → Answer
-valueOr none n = answers.Value n
-valueOr (some r) n = answers.Refused r
+-- ---- answers: the call's value, or its refusal
 
--- the call's value, or its refusal
-unfoldable pub answer : List Cause → ℕ → Answer
-answer causes n = valueOr (first causes) n
+abbrev pub answer : List Cause → ℕ → Answer
+answer causes n = outcome answers.Refused causes (answers.Value n)
 
-abbrev pub orderOr : Option Refusal → ℤ → Compared
-orderOr none z = compared.Order z
-orderOr (some r) z = compared.Refused r
+abbrev pub comparison : List Cause → ℤ → Compared
+comparison causes z = outcome compared.Refused causes (compared.Order z)
 
-unfoldable pub comparison : List Cause → ℤ → Compared
-comparison causes z = orderOr (first causes) z
+abbrev pub yesOrNo : Bool → Decided
+yesOrNo true = decided.Yes
+yesOrNo false = decided.No
 
-abbrev pub decidedOr : Option Refusal → Bool → Decided
-decidedOr none true = decided.Yes
-decidedOr none false = decided.No
-decidedOr (some r) b = decided.Refused r
+abbrev pub decision : List Cause → Bool → Decided
+decision causes b = outcome decided.Refused causes (yesOrNo b)
 
-unfoldable pub decision : List Cause → Bool → Decided
-decision causes b = decidedOr (first causes) b
-
-abbrev pub slotOr : Option Refusal → ℕ → Routed
-slotOr none n = routed.Slot n
-slotOr (some r) n = routed.Refused r
-
-unfoldable pub routing : List Cause → ℕ → Routed
-routing causes n = slotOr (first causes) n
+abbrev pub routing : List Cause → ℕ → Routed
+routing causes n = outcome routed.Refused causes (routed.Slot n)
 
 -- ---- answers at the boundary: a number, and a value behind a pointer
 
@@ -101,18 +90,10 @@ over w d = w ++ drop (length w) d
 unfoldable pub into : List ℕ → List ℕ → List ℕ
 into w d = over (take (length d) w) d
 
-abbrev pub overOr : Option Refusal → List ℕ → List ℕ → List ℕ
-overOr none w d = over w d
-overOr (some r) w d = d
-
 -- what a call that writes w leaves in the destination d: "a refusal changes no lent byte"
-unfoldable pub leaves : List Cause → List ℕ → List ℕ → List ℕ
-leaves causes w d = overOr (first causes) w d
-
-abbrev pub partOr : Option Refusal → List ℕ → List ℕ
-partOr none k = k
-partOr (some r) k = []
+abbrev pub leaves : List Cause → List ℕ → List ℕ → List ℕ
+leaves causes w d = outcome (λ (r : Refusal). d) causes (over w d)
 
 -- "hands back that part of the caller's slice, or an empty part where it would refuse"
-unfoldable pub part : List Cause → List ℕ → List ℕ
-part causes k = partOr (first causes) k
+abbrev pub part : List Cause → List ℕ → List ℕ
+part causes k = outcome (λ (r : Refusal). []) causes k

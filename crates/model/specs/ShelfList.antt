@@ -1,7 +1,6 @@
 -- "The shelf list": the text of one table, to the byte.
 use mathlib.Core.Bool.{Bool, false, cond, not}
 use mathlib.Core.List.{List, [], _∷_, _++_}
-use mathlib.Core.Option.{Option, none, some}
 use Prim.Native.Nat.{ℕ, suc, _+_, _*_, _-_, _/_, _%_}
 use lib.Dec.{eqb, ltb}
 use lib.ListN.{length, take, drop}
@@ -11,7 +10,7 @@ use Rattle.model.specs.Order.{Element, key, max}
 use Rattle.model.specs.Record.{Edge, edge, noEdge, recordSize, lengthField, elements, edges}
 use Rattle.model.specs.RangePrefix.{PivotLcp}
 use Rattle.model.specs.Tables.{PivotTable, EdgeTable}
-use Rattle.model.specs.Refusals.{Cause, number, first}
+use Rattle.model.specs.Refusals.{Cause, number, outcome}
 use Rattle.model.specs.TableCalls.{tableCauses}
 
 abbrev pub tab : ℕ
@@ -101,9 +100,8 @@ unfoldable pub listCauses : List ℕ → List Cause
 listCauses s = tableCauses (notListSize s) false (listPivots s) (listEdges s)
 
 -- "It prints `refused`, a tab and the number, or a header and one line a slot"
-abbrev pub textOr : Option Refusal → List ℕ → List ℕ
-textOr none text = text
-textOr (some r) text = refusedWord ++ tab ∷ decimal (number r) ++ newline ∷ []
+unfoldable pub refusedText : Refusal → List ℕ
+refusedText r = refusedWord ++ tab ∷ decimal (number r) ++ newline ∷ []
 
 unfoldable pub shelfList : List ℕ → List ℕ
-shelfList s = textOr (first (listCauses s)) (tableText (elements (listPivots s)) (edges (listEdges s)))
+shelfList s = outcome refusedText (listCauses s) (tableText (elements (listPivots s)) (edges (listEdges s)))

@@ -34,14 +34,14 @@ unfoldable pub edgesRead : List (List ℕ) → Bool
 edgesRead rs = all (λ (r : List ℕ). edgeReading (reading r)) rs
 
 -- causes 1 to 3 of pivots; whether another argument has cause 1 or 2 comes with them, since a smaller number of any argument comes first
-abbrev pub pivotCauses : Bool → Bool → List ℕ → List Cause
+unfoldable pub pivotCauses : Bool → Bool → List ℕ → List Cause
 pivotCauses shape wrong p =
     (shape || notPivotCount p ⇒ Shape) ∷
     (wrong || not (pivotsRead (records p)) ⇒ Malformed) ∷
     (not (IsStrictlySorted (elements p)) ⇒ Unsorted) ∷ []
 
 -- causes 1 to 4 of pivots and edges
-abbrev pub tableCauses : Bool → Bool → List ℕ → List ℕ → List Cause
+unfoldable pub tableCauses : Bool → Bool → List ℕ → List ℕ → List Cause
 tableCauses shape wrong p e =
     pivotCauses (shape || notEdgeCount p e) (wrong || not (edgesRead (records e))) p
     ++ ((not (WFEdges (edges e) (elements p)) ⇒ EmptyPrefix) ∷ [])

@@ -1,4 +1,4 @@
-use Rattle.model.proofs.Causes.{answering, leaving}
+use Rattle.model.proofs.Causes.{answering}
 use Rattle.keys.proofs.Changing.{changing, prefix-inside}
 use borrow.Author.Needs.{needs}
 use Rattle.keys.proofs.change.change_prefix.Statement.{statement}
@@ -11,15 +11,15 @@ use Rattle.scan.proofs.is_prefix.Reads as is-prefix-reads
 
 -- src/change.rt:41:9
 returns : tie.Need-returns
-returns c = (search (changing, answering) depth 9, search (changing, leaving) depth 9)
+returns c = (search (changing, answering) depth 9, search (changing, answering) depth 9)
 
 -- src/change.rt:44:9
 returns-2 : tie.Need-returns-2
-returns-2 c = (search (changing, answering) depth 9, search (changing, leaving) depth 9)
+returns-2 c = (search (changing, answering) depth 9, search (changing, answering) depth 9)
 
 -- src/change.rt:47:9
 returns-3 : tie.Need-returns-3
-returns-3 c = (search (changing, answering) depth 9, search (changing, leaving) depth 9)
+returns-3 c = (search (changing, answering) depth 9, search (changing, answering) depth 9)
 
 -- src/change.rt:49:9
 is-prefix-requires : tie.Need-is-prefix-requires
@@ -31,15 +31,15 @@ changed-len-requires c κs = search needs
 
 -- src/change.rt:52:9
 returns-4 : tie.Need-returns-4
-returns-4 c = (search (changing, answering) depth 9, search (changing, leaving) depth 9)
+returns-4 c = (search (changing, answering) depth 9, search (changing, answering) depth 9)
 
 -- src/change.rt:55:9
 returns-5 : tie.Need-returns-5
-returns-5 c = (search (changing, answering) depth 9, search (changing, leaving) depth 9)
+returns-5 c = (search (changing, answering) depth 9, search (changing, answering) depth 9)
 
 -- src/change.rt:58:9
 returns-6 : tie.Need-returns-6
-returns-6 c = (search (changing, answering) depth 9, search (changing, leaving) depth 9)
+returns-6 c = (search (changing, answering) depth 9, search (changing, answering) depth 9)
 
 -- src/change.rt:61:15
 sub-join : tie.Need-sub-join
@@ -63,7 +63,7 @@ same-length c = search needs
 
 -- src/change.rt:36:1
 returns-7 : tie.Need-returns-7
-returns-7 c = (search (changing, answering) depth 9, search (changing, leaving) depth 9)
+returns-7 c = (search (changing, answering) depth 9, search (changing, answering) depth 9)
 
 pub change-prefix-spec : {M : Type 1} → statement M
 change-prefix-spec =

@@ -1,4 +1,4 @@
-use Rattle.model.proofs.Causes.{leaving}
+use Rattle.model.proofs.Causes.{answering}
 use Rattle.keys.proofs.KeyOf.{entry-room, entry-part}
 use borrow.Author.Needs.{needs}
 use Rattle.keys.proofs.read.entry_key_part.Statement.{statement}
@@ -13,7 +13,7 @@ slice-aggregate-result c = search needs
 
 -- src/read.rt:57:9
 returns : tie.Need-returns
-returns c = search leaving
+returns c = search answering
 
 -- src/read.rt:59:20
 slice-aggregate-pivot-key-part : tie.Need-slice-aggregate-pivot-key-part

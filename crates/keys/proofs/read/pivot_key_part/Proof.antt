@@ -1,4 +1,4 @@
-use Rattle.model.proofs.Causes.{part-refused}
+use Rattle.model.proofs.Causes.{handing-on}
 use Rattle.keys.proofs.KeyOf.{end-fits, end-inside, key-fills}
 use borrow.Author.Needs.{needs}
 use Rattle.keys.proofs.read.pivot_key_part.Statement.{statement}
@@ -25,7 +25,7 @@ slice-aggregate-result c = search needs
 
 -- src/read.rt:36:9
 returns : tie.Need-returns
-returns c = search part-refused
+returns c = search handing-on
 
 -- src/read.rt:38:15
 add-end : tie.Need-add-end
