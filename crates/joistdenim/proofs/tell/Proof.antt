@@ -1,30 +1,23 @@
+-- `joistdenim::tell` meets its contract.
 use Rattle.joistdenim.proofs.Telling.{telling}
 use borrow.Author.Needs.{needs}
 use Rattle.joistdenim.proofs.tell.Statement.{statement}
 use Rattle.joistdenim.proofs.tell.Tie as tie
-use Rattle.joistdenim.proofs.tell.Reads as reads
-use Rattle.joistdenim.proofs.tell.Lts as lts
-use Rattle.refusals.proofs.refusal_number.Reads as refusal-number-reads
 
 ruleset rules = (needs, telling)
 
--- src/lib.rt:16:23
 enum-known-a : tie.Need-enum-known-a
 enum-known-a c = search rules
 
--- src/lib.rt:20:25
 enum-known-a-2 : tie.Need-enum-known-a-2
 enum-known-a-2 c = search rules
 
--- src/lib.rt:20:31
 refusal-number-requires : tie.Need-refusal-number-requires
 refusal-number-requires c κs = search rules
 
--- src/lib.rt:11:1
 returns : tie.Need-returns
 returns c = search rules
 
--- src/lib.rt:11:1
 returns-2 : tie.Need-returns-2
 returns-2 c = search rules
 

@@ -1,66 +1,48 @@
+-- `range_prefix::key_range_prefix` meets its contract.
 use Rattle.range_prefix.proofs.Beyond.{lcp-ends, lcp-not-one, lcp-apart, lcp-goes-on}
 use borrow.Author.Needs.{needs}
 use Rattle.range_prefix.proofs.key_range_prefix.Statement.{statement}
 use Rattle.range_prefix.proofs.key_range_prefix.Tie as tie
-use Rattle.range_prefix.proofs.key_range_prefix.Reads as reads
-use Rattle.range_prefix.proofs.key_range_prefix.Lts as lts
-use Rattle.range_prefix.proofs.is_next.Reads as is-next-reads
-use Rattle.scan.proofs.common_run.Reads as common-run-reads
-use Rattle.scan.proofs.ff_run.Reads as ff-run-reads
 
--- src/lib.rt:29:9
 common-run-requires : tie.Need-common-run-requires
 common-run-requires c κs = search needs
 
--- src/lib.rt:31:9
 returns : tie.Need-returns
 returns c = (search lcp-ends, search needs)
 
--- src/lib.rt:33:13
 add-m : tie.Need-add-m
 add-m c = search needs
 
--- src/lib.rt:35:9
 returns-2 : tie.Need-returns-2
 returns-2 c = (search lcp-not-one, search needs)
 
--- src/lib.rt:37:17
 shared-slice-read-is-next : tie.Need-shared-slice-read-is-next
 shared-slice-read-is-next c = search needs
 
--- src/lib.rt:37:26
 shared-slice-read-is-next-2 : tie.Need-shared-slice-read-is-next-2
 shared-slice-read-is-next-2 c = search needs
 
--- src/lib.rt:37:9
 is-next-requires : tie.Need-is-next-requires
 is-next-requires c κs = search needs
 
--- src/lib.rt:38:9
 returns-3 : tie.Need-returns-3
 returns-3 c = (search lcp-apart, search needs)
 
--- src/lib.rt:40:22
 sub-ff-run : tie.Need-sub-ff-run
 sub-ff-run c = search needs
 
--- src/lib.rt:40:22
 part-ff-run-start : tie.Need-part-ff-run-start
 part-ff-run-start c = search needs
 
--- src/lib.rt:40:22
 part-ff-run-end : tie.Need-part-ff-run-end
 part-ff-run-end c = search needs
 
--- src/lib.rt:40:9
 ff-run-requires : tie.Need-ff-run-requires
 ff-run-requires c κs = search needs
 
--- src/lib.rt:40:5
 add-result : tie.Need-add-result
 add-result c = search needs
 
--- src/lib.rt:25:1
 returns-4 : tie.Need-returns-4
 returns-4 c = (search lcp-goes-on, search needs)
 

@@ -1,21 +1,17 @@
+-- `scan::byte_at` meets its contract.
 use Rattle.scan.proofs.Scan.{scans}
 use borrow.Author.Needs.{needs}
 use Rattle.scan.proofs.byte_at.Statement.{statement}
 use Rattle.scan.proofs.byte_at.Tie as tie
-use Rattle.scan.proofs.byte_at.Reads as reads
-use Rattle.scan.proofs.byte_at.Lts as lts
 
 ruleset rules = (needs, scans)
 
--- src/lib.rt:14:16
 shared-slice-read-result : tie.Need-shared-slice-read-result
 shared-slice-read-result c = search rules
 
--- src/lib.rt:14:9
 returns : tie.Need-returns
 returns c = search rules
 
--- src/lib.rt:10:1
 returns-2 : tie.Need-returns-2
 returns-2 c = search rules
 

@@ -1,3 +1,4 @@
+-- `scan::common_run` meets its contract.
 use Rattle.model.specs.Key.{commonRun}
 use lib.ListN.{length, drop}
 use mathlib.Core.Path.{_≡_}
@@ -6,9 +7,6 @@ use borrow.Author.Needs.{needs}
 use Rattle.scan.proofs.Scan.{common-turn, common-differ, common-end}
 use Rattle.scan.proofs.common_run.Statement.{statement}
 use Rattle.scan.proofs.common_run.Tie as tie
-use Rattle.scan.proofs.common_run.Reads as reads
-use Rattle.scan.proofs.common_run.Lts as lts
-use Rattle.scan.proofs.least.Reads as least-reads
 
 abbrev Inv-loop : tie.InvT-loop
 Inv-loop a b n i₀ i = (i ≤ n) × (i + length (commonRun (drop i a) (drop i b)) ≡ length (commonRun a b))
@@ -16,39 +14,30 @@ Inv-loop a b n i₀ i = (i ≤ n) × (i + length (commonRun (drop i a) (drop i b
 abbrev μ-loop : tie.MeasureT-loop
 μ-loop a b n i₀ i = n - i
 
--- src/lib.rt:31:9
 least-requires : tie.Need-least-requires Inv-loop μ-loop
 least-requires c κs = search needs
 
--- src/lib.rt:33:5
 loop-holds : tie.Need-loop-holds Inv-loop μ-loop
 loop-holds c = search needs
 
--- src/lib.rt:34:12
 shared-slice-read-if1 : tie.Need-shared-slice-read-if1 Inv-loop μ-loop
 shared-slice-read-if1 c = search needs
 
--- src/lib.rt:34:20
 shared-slice-read-if1-2 : tie.Need-shared-slice-read-if1-2 Inv-loop μ-loop
 shared-slice-read-if1-2 c = search needs
 
--- src/lib.rt:35:13
 returns : tie.Need-returns Inv-loop μ-loop
 returns c = (search common-differ, search needs)
 
--- src/lib.rt:37:9
 add-i : tie.Need-add-i Inv-loop μ-loop
 add-i c = search needs
 
--- src/lib.rt:33:5
 loop-less : tie.Need-loop-less Inv-loop μ-loop
 loop-less c = search needs
 
--- src/lib.rt:33:5
 loop-again : tie.Need-loop-again Inv-loop μ-loop
 loop-again c = (search needs, search common-turn)
 
--- src/lib.rt:27:1
 returns-2 : tie.Need-returns-2 Inv-loop μ-loop
 returns-2 c = (search common-end, search needs)
 

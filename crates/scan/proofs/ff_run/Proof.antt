@@ -1,3 +1,4 @@
+-- `scan::ff_run` meets its contract.
 use Rattle.model.specs.RangePrefix.{lcpright}
 use lib.ListN.{length, drop}
 use mathlib.Core.Path.{_≡_}
@@ -6,8 +7,6 @@ use borrow.Author.Needs.{needs}
 use Rattle.scan.proofs.Scan.{scans}
 use Rattle.scan.proofs.ff_run.Statement.{statement}
 use Rattle.scan.proofs.ff_run.Tie as tie
-use Rattle.scan.proofs.ff_run.Reads as reads
-use Rattle.scan.proofs.ff_run.Lts as lts
 
 ruleset rules = (needs, scans)
 
@@ -17,31 +16,24 @@ Inv-loop a i₀ i = (i ≤ length a) × (i + length (lcpright (drop i a)) ≡ le
 abbrev μ-loop : tie.MeasureT-loop
 μ-loop a i₀ i = length a - i
 
--- src/lib.rt:48:5
 loop-holds : tie.Need-loop-holds Inv-loop μ-loop
 loop-holds c = search rules
 
--- src/lib.rt:49:12
 shared-slice-read-if1 : tie.Need-shared-slice-read-if1 Inv-loop μ-loop
 shared-slice-read-if1 c = search rules
 
--- src/lib.rt:50:13
 returns : tie.Need-returns Inv-loop μ-loop
 returns c = search rules
 
--- src/lib.rt:52:9
 add-i : tie.Need-add-i Inv-loop μ-loop
 add-i c = search rules
 
--- src/lib.rt:48:5
 loop-less : tie.Need-loop-less Inv-loop μ-loop
 loop-less c = search rules
 
--- src/lib.rt:48:5
 loop-again : tie.Need-loop-again Inv-loop μ-loop
 loop-again c = search rules
 
--- src/lib.rt:43:1
 returns-2 : tie.Need-returns-2 Inv-loop μ-loop
 returns-2 c = search rules
 

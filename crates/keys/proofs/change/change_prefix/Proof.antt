@@ -1,67 +1,49 @@
+-- `keys::change_prefix` meets its contract.
 use Rattle.model.proofs.Causes.{answering}
 use Rattle.keys.proofs.Changing.{changing, prefix-inside}
 use borrow.Author.Needs.{needs}
 use Rattle.keys.proofs.change.change_prefix.Statement.{statement}
 use Rattle.keys.proofs.change.change_prefix.Tie as tie
-use Rattle.keys.proofs.change.change_prefix.Reads as reads
-use Rattle.keys.proofs.change.change_prefix.Lts as lts
-use Rattle.keys.proofs.change.changed_len.Reads as changed-len-reads
-use Rattle.keys.proofs.change.join.Reads as join-reads
-use Rattle.scan.proofs.is_prefix.Reads as is-prefix-reads
 
--- src/change.rt:41:9
 returns : tie.Need-returns
 returns c = (search (changing, answering) depth 9, search (changing, answering) depth 9)
 
--- src/change.rt:44:9
 returns-2 : tie.Need-returns-2
 returns-2 c = (search (changing, answering) depth 9, search (changing, answering) depth 9)
 
--- src/change.rt:47:9
 returns-3 : tie.Need-returns-3
 returns-3 c = (search (changing, answering) depth 9, search (changing, answering) depth 9)
 
--- src/change.rt:49:9
 is-prefix-requires : tie.Need-is-prefix-requires
 is-prefix-requires c κs = search needs
 
--- src/change.rt:50:9
 changed-len-requires : tie.Need-changed-len-requires
 changed-len-requires c κs = search needs
 
--- src/change.rt:52:9
 returns-4 : tie.Need-returns-4
 returns-4 c = (search (changing, answering) depth 9, search (changing, answering) depth 9)
 
--- src/change.rt:55:9
 returns-5 : tie.Need-returns-5
 returns-5 c = (search (changing, answering) depth 9, search (changing, answering) depth 9)
 
--- src/change.rt:58:9
 returns-6 : tie.Need-returns-6
 returns-6 c = (search (changing, answering) depth 9, search (changing, answering) depth 9)
 
--- src/change.rt:61:15
 sub-join : tie.Need-sub-join
 sub-join c = prefix-inside _ _ _ (c .before .before .before .before .is-prefix .ensures) (c .before .before .if4 .left)
 
--- src/change.rt:61:15
 part-join-start : tie.Need-part-join-start
 part-join-start c = prefix-inside _ _ _ (c .before .before .before .before .is-prefix .ensures) (c .before .before .if4 .left)
 
--- src/change.rt:61:15
 part-join-end : tie.Need-part-join-end
 part-join-end c = search needs
 
--- src/change.rt:61:5
 join-requires : tie.Need-join-requires
 join-requires c κs = search needs
 
--- src/change.rt:36:1
 same-length : tie.Need-same-length
 same-length c = search needs
 
--- src/change.rt:36:1
 returns-7 : tie.Need-returns-7
 returns-7 c = (search (changing, answering) depth 9, search (changing, answering) depth 9)
 

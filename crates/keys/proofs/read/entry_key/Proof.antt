@@ -1,25 +1,19 @@
+-- `keys::entry_key` meets its contract.
 use Rattle.model.proofs.Causes.{answering}
 use Rattle.keys.proofs.KeyOf.{entry-room, entry-answer}
 use borrow.Author.Needs.{needs}
 use Rattle.keys.proofs.read.entry_key.Statement.{statement}
 use Rattle.keys.proofs.read.entry_key.Tie as tie
-use Rattle.keys.proofs.read.entry_key.Reads as reads
-use Rattle.keys.proofs.read.entry_key.Lts as lts
-use Rattle.keys.proofs.read.pivot_key.Reads as pivot-key-reads
 
--- src/read.rt:47:9
 returns : tie.Need-returns
 returns c = search answering
 
--- src/read.rt:49:15
 slice-aggregate-pivot-key : tie.Need-slice-aggregate-pivot-key
 slice-aggregate-pivot-key c = search entry-room
 
--- src/read.rt:49:5
 pivot-key-requires : tie.Need-pivot-key-requires
 pivot-key-requires c κs = search needs
 
--- src/read.rt:43:1
 returns-2 : tie.Need-returns-2
 returns-2 c = search entry-answer
 

@@ -1,29 +1,22 @@
+-- `keys::entry_key_part` meets its contract.
 use Rattle.model.proofs.Causes.{answering}
 use Rattle.keys.proofs.KeyOf.{entry-room, entry-part}
 use borrow.Author.Needs.{needs}
 use Rattle.keys.proofs.read.entry_key_part.Statement.{statement}
 use Rattle.keys.proofs.read.entry_key_part.Tie as tie
-use Rattle.keys.proofs.read.entry_key_part.Reads as reads
-use Rattle.keys.proofs.read.entry_key_part.Lts as lts
-use Rattle.keys.proofs.read.pivot_key_part.Reads as pivot-key-part-reads
 
--- src/read.rt:57:9
 slice-aggregate-result : tie.Need-slice-aggregate-result
 slice-aggregate-result c = search needs
 
--- src/read.rt:57:9
 returns : tie.Need-returns
 returns c = search answering
 
--- src/read.rt:59:20
 slice-aggregate-pivot-key-part : tie.Need-slice-aggregate-pivot-key-part
 slice-aggregate-pivot-key-part c = search entry-room
 
--- src/read.rt:59:5
 pivot-key-part-requires : tie.Need-pivot-key-part-requires
 pivot-key-part-requires c κs = search needs
 
--- src/read.rt:53:1
 returns-2 : tie.Need-returns-2
 returns-2 c = search entry-part
 

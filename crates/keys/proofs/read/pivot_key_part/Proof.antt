@@ -1,49 +1,37 @@
+-- `keys::pivot_key_part` meets its contract.
 use Rattle.model.proofs.Causes.{handing-on}
 use Rattle.keys.proofs.KeyOf.{end-fits, end-inside, key-fills}
 use borrow.Author.Needs.{needs}
 use Rattle.keys.proofs.read.pivot_key_part.Statement.{statement}
 use Rattle.keys.proofs.read.pivot_key_part.Tie as tie
-use Rattle.keys.proofs.read.pivot_key_part.Reads as reads
-use Rattle.keys.proofs.read.pivot_key_part.Lts as lts
-use Rattle.keys.proofs.read.pivot_key.Reads as pivot-key-reads
 
--- src/read.rt:34:9
 pivot-key-requires : tie.Need-pivot-key-requires
 pivot-key-requires c κs = search needs
 
--- src/read.rt:35:23
 enum-known-found : tie.Need-enum-known-found
 enum-known-found c = search needs
 
--- src/read.rt:36:16
 enum-told : tie.Need-enum-told
 enum-told c = search needs
 
--- src/read.rt:36:9
 slice-aggregate-result : tie.Need-slice-aggregate-result
 slice-aggregate-result c = search needs
 
--- src/read.rt:36:9
 returns : tie.Need-returns
 returns c = search handing-on
 
--- src/read.rt:38:15
 add-end : tie.Need-add-end
 add-end c = search end-fits
 
--- src/read.rt:39:5
 sub-result : tie.Need-sub-result
 sub-result c = search needs
 
--- src/read.rt:39:5
 part-result-start : tie.Need-part-result-start
 part-result-start c = search needs
 
--- src/read.rt:39:5
 part-result-end : tie.Need-part-result-end
 part-result-end c = search end-inside
 
--- src/read.rt:31:1
 returns-2 : tie.Need-returns-2
 returns-2 c = search key-fills
 

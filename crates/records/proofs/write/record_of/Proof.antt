@@ -1,3 +1,4 @@
+-- `records::record_of` meets its contract.
 use borrow.Author.Needs.{needs}
 use Rattle.records.proofs.Writing.{set-kept, partly, partly-start, partly-turn, partly-end}
 use lib.ListN.{length}
@@ -5,9 +6,6 @@ use mathlib.Core.Path.{_≡_}
 use Prim.Native.Nat.{ℕ, _-_, _≤_}
 use Rattle.records.proofs.write.record_of.Statement.{statement}
 use Rattle.records.proofs.write.record_of.Tie as tie
-use Rattle.records.proofs.write.record_of.Reads as reads
-use Rattle.records.proofs.write.record_of.Lts as lts
-use Rattle.scan.proofs.least.Reads as least-reads
 
 abbrev Inv-loop : tie.InvT-loop
 Inv-loop field k n made₀ i₀ made i = (i ≤ n) × (length made ≡ 66) × (made ≡ partly field k i)
@@ -15,55 +13,42 @@ Inv-loop field k n made₀ i₀ made i = (i ≤ n) × (length made ≡ 66) × (m
 abbrev μ-loop : tie.MeasureT-loop
 μ-loop field k n made₀ i₀ made i = n - i
 
--- src/write.rt:26:9
 least-requires : tie.Need-least-requires Inv-loop μ-loop
 least-requires c κs = search needs
 
--- src/write.rt:28:15
 cast-made : tie.Need-cast-made Inv-loop μ-loop
 cast-made c = search needs
 
--- src/write.rt:28:5
 array-write-made : tie.Need-array-write-made Inv-loop μ-loop
 array-write-made c = search needs
 
--- src/write.rt:29:15
 cast-made-2 : tie.Need-cast-made-2 Inv-loop μ-loop
 cast-made-2 c = search needs
 
--- src/write.rt:29:5
 array-write-made-2 : tie.Need-array-write-made-2 Inv-loop μ-loop
 array-write-made-2 c = search needs
 
--- src/write.rt:31:5
 loop-holds : tie.Need-loop-holds Inv-loop μ-loop
 loop-holds c = (search needs, search needs, search partly-start)
 
--- src/write.rt:32:23
 shared-slice-read-made : tie.Need-shared-slice-read-made Inv-loop μ-loop
 shared-slice-read-made c = search needs
 
--- src/write.rt:32:14
 add-made : tie.Need-add-made Inv-loop μ-loop
 add-made c = search needs
 
--- src/write.rt:32:9
 array-write-made-3 : tie.Need-array-write-made-3 Inv-loop μ-loop
 array-write-made-3 c = search needs
 
--- src/write.rt:33:9
 add-i : tie.Need-add-i Inv-loop μ-loop
 add-i c = search needs
 
--- src/write.rt:31:5
 loop-less : tie.Need-loop-less Inv-loop μ-loop
 loop-less c = search needs
 
--- src/write.rt:31:5
 loop-again : tie.Need-loop-again Inv-loop μ-loop
 loop-again c = (search needs, search needs, search partly-turn)
 
--- src/write.rt:23:1
 returns : tie.Need-returns Inv-loop μ-loop
 returns c = search partly-end
 
