@@ -8,6 +8,8 @@ pub use change::change_prefix;
 pub use order::compare;
 pub use order::compare_elements;
 pub use order::compare_keys;
+pub use order::is_below;
+pub use order::passes;
 pub use read::entry_key;
 pub use read::entry_key_part;
 pub use read::pivot_key;

@@ -3,7 +3,7 @@ use model::Compared;
 use model::RECORD_SIZE;
 use model::Refusal;
 ghost use mathlib.Core.Path.{_≡_};
-ghost use Rattle.model.specs.Order.{key, cmp};
+ghost use Rattle.model.specs.Order.{key, lt, cmp, passes};
 ghost use Rattle.model.specs.Record.{element};
 ghost use Rattle.model.specs.Calls.{compareAnswer};
 
@@ -60,4 +60,25 @@ pub fn compare(a: &[u8], b: &[u8]) -> Compared
         return Compared::Refused(Refusal::Malformed);
     }
     Compared::Order(compare_elements(a, b))
+}
+
+// Whether what a record stands for is not above the key k or, where strict, below it.
+pub fn passes(rec: &[u8], k: &[u8], strict: bool) -> bool
+    ensures { λ r. ⌜ r ≡ passes strict (key (now (k .entry))) (element (now (rec .entry))) ⌝ }
+{
+    if records::is_max(rec) {
+        return false;
+    }
+    let order = compare_keys(records::key_bytes(rec), k);
+    if strict {
+        return order < 0;
+    }
+    order <= 0
+}
+
+// Whether what one record stands for is below what another does.
+pub fn is_below(a: &[u8], b: &[u8]) -> bool
+    ensures { λ r. ⌜ r ≡ lt (element (now (a .entry))) (element (now (b .entry))) ⌝ }
+{
+    compare_elements(a, b) < 0
 }

@@ -7,4 +7,6 @@ pub mod Record
 pub mod Records
 pub mod RangePrefix
 pub mod UpperBound
+pub mod Places
+pub mod TableBytes
 pub mod Rows

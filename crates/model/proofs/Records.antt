@@ -1,14 +1,14 @@
 -- Several records.
-use mathlib.Core.Path.{_≡_, refl}
+use mathlib.Core.Path.{_≡_, refl, ap}
 use mathlib.Core.Bool.{Bool, true, _&&_}
 use mathlib.Core.List.{List, [], _∷_, map}
-use Prim.Native.Nat.{ℕ, zero, suc, _*_, _/_, _≤_, _<_}
+use Prim.Native.Nat.{ℕ, zero, suc, _+_, _*_, _/_, _≤_, _<_}
 use native.Mathlib.Omega.{arith}
-use native.Mathlib.Nat.{mul-div-cancel}
+use native.Mathlib.Nat.{mul-div-cancel, zero-mul}
 use borrow.Author.Tests.{leb-true, eqb-true}
 use lib.Dec.{leb, eqb}
-use lib.ListN.{length, take, drop, length-append, length-drop, take-append-drop}
-use lib.Seq.{length-take-le, take-at, drop-at}
+use lib.ListN.{length, take, drop, getD, length-append, length-drop, take-append-drop}
+use lib.Seq.{length-take-le, take-at, drop-at, drop-drop}
 use Rattle.model.specs.Key.{Bytes, maxLen}
 use Rattle.model.specs.Order.{Element}
 use Rattle.model.specs.Record.{Edge, recordSize, reading, elementReading, edgeReading, recordOf, encode, encodeEdge, element, edgeOf}
@@ -43,6 +43,21 @@ module _ {A : Type 0} (s : ℕ) (ok : A → Bool) (write : A → List ℕ) (size
     pub read-joined : 0 < s → (xs : List A) → all ok xs ≡ true
         → map read (pieces s (length (joined (map write xs)) / s) (joined (map write xs))) ≡ xs
     read-joined h xs e = rw (length-joined xs e, mul-div-cancel (length xs) h) (read-first xs e)
+
+-- a piece is the part of the bytes at its place
+pub piece-at : (s n i : ℕ) (l : List ℕ) → i < n → getD (pieces s n l) i [] ≡ take s (drop (i * s) l)
+unfolding pieces
+piece-at s zero i l h = absurd (omega arith)
+piece-at s (suc n) zero l h = rw (zero-mul)
+piece-at s (suc n) (suc i) l h =
+    let next-place : s + i * s ≡ suc i * s = omega arith in
+    rw (piece-at s n i (drop s l) (omega arith), drop-drop, next-place)
+
+-- there are as many as are asked for
+pub length-pieces : (s n : ℕ) (l : List ℕ) → length (pieces s n l) ≡ n
+unfolding pieces
+length-pieces s zero l = refl
+length-pieces s (suc n) l = ap suc (length-pieces s n (drop s l))
 
 -- bytes are their pieces one after the other
 pub pieces-joined : (s n : ℕ) (l : List ℕ) → length l ≡ n * s → joined (pieces s n l) ≡ l

@@ -67,23 +67,20 @@ unfoldable pub edgeOf : List ℕ → Edge
 edgeOf r = cond (eqb (lengthField r) noEdgeMark) noEdge (edge (keyBytes r))
 
 -- the readings that fit: a key; a key or max; a key or no edge
+abbrev pub allowed : Bool → Bool → Reading → Bool
+allowed orNoEdge orMax (reads.Key n) = true
+allowed orNoEdge orMax reads.Malformed = false
+allowed orNoEdge orMax reads.NoEdge = orNoEdge
+allowed orNoEdge orMax reads.Max = orMax
+
 abbrev pub keyReading : Reading → Bool
-keyReading (reads.Key n) = true
-keyReading reads.Malformed = false
-keyReading reads.NoEdge = false
-keyReading reads.Max = false
+keyReading w = allowed false false w
 
 abbrev pub elementReading : Reading → Bool
-elementReading (reads.Key n) = true
-elementReading reads.Malformed = false
-elementReading reads.NoEdge = false
-elementReading reads.Max = true
+elementReading w = allowed false true w
 
 abbrev pub edgeReading : Reading → Bool
-edgeReading (reads.Key n) = true
-edgeReading reads.Malformed = false
-edgeReading reads.NoEdge = true
-edgeReading reads.Max = false
+edgeReading w = allowed true false w
 
 -- ---- writing
 
@@ -119,6 +116,9 @@ joined (r ∷ rs) = r ++ joined rs
 
 unfoldable pub records : List ℕ → List (List ℕ)
 records l = pieces recordSize (length l / recordSize) l
+
+abbrev pub recordAt : List ℕ → ℕ → List ℕ
+recordAt l i = getD (records l) i []
 
 unfoldable pub elements : List ℕ → List Element
 elements l = map element (records l)

@@ -85,3 +85,14 @@ module _ (l r : List ℕ) (t : Bool) (p : t ≡ eqb (lengthField r) maxMark) whe
   pub up-to-key : (k : List ℕ) (n : ℕ) → t ≡ false → k ≡ keyBytes r → n ≡ length (lcp l k) → n ≡ length (PivotLcp (key l) (element r))
   unfolding PivotLcp element
   up-to-key k n h q e = rw (← p, h, ← q) e
+
+-- what the left record stands for
+module _ (l r : List ℕ) (t : Bool) (p : t ≡ eqb (lengthField l) maxMark) where
+  pub from-max : t ≡ true → 0 ≡ length (PivotLcp (element l) (element r))
+  unfolding element PivotLcp
+  from-max h = rw (← p, h)
+
+  pub from-key : (x : List ℕ) (n : ℕ) → t ≡ false → x ≡ keyBytes l → n ≡ length (PivotLcp (key x) (element r))
+      → n ≡ length (PivotLcp (element l) (element r))
+  unfolding element
+  from-key x n h e w = rw (← p, h, ← e) w

@@ -49,6 +49,16 @@ pub fn range_prefix_len(left: &[u8], right: &[u8]) -> usize
     key_range_prefix(left, records::key_bytes(right))
 }
 
+// PivotLcp between what two records stand for.
+pub fn element_range_prefix(left: &[u8], right: &[u8]) -> usize
+    ensures { λ r. ⌜ r ≡ length (PivotLcp (element (now (left .entry))) (element (now (right .entry)))) ⌝ }
+{
+    if records::is_max(left) {
+        return 0;
+    }
+    range_prefix_len(records::key_bytes(left), right)
+}
+
 // PivotLcp: the length of the prefix of the range from a key up to an element. Refuses 1 and 2.
 pub fn pivot_lcp(left: &[u8], right: &[u8]) -> Answer
     ensures { λ r. ⌜ r ≡ pivotLcpAnswer (now (left .entry)) (now (right .entry)) ⌝ }

@@ -2,20 +2,21 @@
 use mathlib.Core.Path.{_≡_, refl, sym, ap, _∙_}
 use mathlib.Core.Bool.{Bool, true, false, cond}
 use mathlib.Core.List.{List, [], _∷_}
-use Prim.Native.Nat.{ℕ, _+_, _*_, _-_, _≤_, _<_, min}
+use Prim.Native.Nat.{ℕ, _+_, _*_, _-_, _/_, _≤_, _<_, min}
 use native.Mathlib.Nat.{add-sub-cancel-left}
 use native.Mathlib.Omega.{arith}
 use borrow.Author.Tests.{eq-eqb, ne-eqb, le-leb, lt-leb, leb-true}
 use lib.Dec.{eqb, leb}
-use lib.ListN.{length, take, drop, getD, length-drop, drop-of-length-le}
+use lib.ListN.{length, take, drop, getD, length-drop, drop-of-length-le, List·getD-eq-default}
 use lib.Seq.{take-nil}
 use mir.Val.{Fits}
 use mir.Syntax.{w64}
 use Rattle.model.specs.declared.Reading.{Reading}
 use Rattle.model.specs.declared.Reading.the-variants.{Key, Malformed, NoEdge, Max}
 use Rattle.model.specs.Key.{maxLen}
-use Rattle.model.specs.Record.{lengthField, fieldReading, keyLength, reading, allZero, keyBytes, elementReading, maxMark}
+use Rattle.model.specs.Record.{lengthField, fieldReading, keyLength, reading, allZero, keyBytes, allowed, recordSize, records, recordAt}
 use Rattle.model.proofs.Lists.{take-min}
+use Rattle.model.proofs.Records.{length-pieces, piece-at}
 
 -- ---- the length field
 
@@ -69,23 +70,13 @@ module _ (r : List ℕ) (n k : ℕ) (w : Reading) (e : n ≡ lengthField r) (f :
   unfolding reading
   read-spoilt z p q = rw (← at-field, ← g, ← p, q)
 
-module _ (r : List ℕ) (w : Reading) (e : w ≡ reading r) where
-  pub element-key : (n : ℕ) → w ≡ Key n → true ≡ elementReading (reading r)
-  element-key n p = rw (← e, p)
+-- what is asked of a record's reading
+pub reading-told : (r : List ℕ) (w : Reading) (noEdge max t : Bool) → w ≡ reading r → t ≡ allowed noEdge max w → t ≡ allowed noEdge max (reading r)
+reading-told r w noEdge max t e h = rw (← e) h
 
-  pub element-max : w ≡ Max → true ≡ elementReading (reading r)
-  element-max p = rw (← e, p)
-
-  pub element-malformed : w ≡ Malformed → false ≡ elementReading (reading r)
-  element-malformed p = rw (← e, p)
-
-  pub element-none : w ≡ NoEdge → false ≡ elementReading (reading r)
-  element-none p = rw (← e, p)
-
-pub ruleset element-cases = (element-key, element-max, element-malformed, element-none)
-
-pub max-by-field : (r : List ℕ) (n : ℕ) → n ≡ lengthField r → eqb n 65535 ≡ eqb (lengthField r) maxMark
-max-by-field r n e = rw e
+-- a mark is told by the length field
+pub mark-told : (r : List ℕ) (n mark : ℕ) → n ≡ lengthField r → eqb n mark ≡ eqb (lengthField r) mark
+mark-told r n mark e = rw e
 
 -- ---- the key's bytes
 
@@ -98,3 +89,14 @@ unfolding keyBytes
 bytes-part r n w m e f g =
     let h : min w (length r - 2) ≡ min w (length (drop 2 r)) = ap (min w) (sym (length-drop 2 r)) in
     rw (add-sub-cancel-left 2 m, g, h, take-min, f, e)
+
+-- ---- the record at a place
+
+module _ (l : List ℕ) (i : ℕ) where
+  pub past-records : length l / 66 ≤ i → [] ≡ recordAt l i
+  unfolding records
+  past-records h = sym (List·getD-eq-default (records l) [] (omega (arith, length-pieces recordSize (length l / 66) l)))
+
+  pub record-part : i < length l / 66 → take (i * 66 + 66 - i * 66) (drop (i * 66) l) ≡ recordAt l i
+  unfolding records
+  record-part h = rw (add-sub-cancel-left, piece-at recordSize (length l / 66) i l h)

@@ -3,11 +3,15 @@ mod read;
 mod write;
 
 pub use read::field_reading;
+pub use read::holds_edge;
 pub use read::holds_element;
+pub use read::holds_key;
 pub use read::is_max;
+pub use read::is_no_edge;
 pub use read::key_bytes;
 pub use read::length_field;
 pub use read::read_record;
+pub use read::record_at;
 pub use write::copy;
 pub use write::put_record;
 pub use write::record_of;

@@ -1,9 +1,10 @@
 // What a record says.
+use model::RECORD_SIZE;
 use model::Reading;
 ghost use mathlib.Core.Path.{_≡_};
 ghost use Prim.Native.Nat.{_+_, _≤_, _<_};
 ghost use lib.Dec.{eqb};
-ghost use Rattle.model.specs.Record.{lengthField, fieldReading, keyLength, reading, keyBytes, elementReading, maxMark};
+ghost use Rattle.model.specs.Record.{lengthField, fieldReading, keyLength, reading, keyBytes, allowed, keyReading, elementReading, edgeReading, noEdgeMark, maxMark, recordAt};
 
 fn wide16(x: u8) -> u16
     ensures { λ r. ⌜ (r ≡ x) × (r < 256) ⌝ }
@@ -67,16 +68,44 @@ pub fn is_max(rec: &[u8]) -> bool
     length_field(rec) == 65535
 }
 
+// Whether an edge record says "no edge", by its length field.
+pub fn is_no_edge(rec: &[u8]) -> bool
+    ensures { λ r. ⌜ r ≡ eqb (lengthField (now (rec .entry))) noEdgeMark ⌝ }
+{
+    length_field(rec) == 65534
+}
+
+// Whether a reading is allowed: a key, and each mark where it may stand.
+fn allows(way: Reading, empty: bool, max: bool) -> bool
+    ensures { λ r. ⌜ r ≡ allowed empty max way ⌝ }
+{
+    match way {
+        Reading::Key(_) => true,
+        Reading::Malformed => false,
+        Reading::NoEdge => empty,
+        Reading::Max => max,
+    }
+}
+
+// Whether a record is a key's.
+pub fn holds_key(rec: &[u8]) -> bool
+    ensures { λ r. ⌜ r ≡ keyReading (reading (now (rec .entry))) ⌝ }
+{
+    allows(read_record(rec), false, false)
+}
+
 // Whether a record is a key's or max.
 pub fn holds_element(rec: &[u8]) -> bool
     ensures { λ r. ⌜ r ≡ elementReading (reading (now (rec .entry))) ⌝ }
 {
-    match read_record(rec) {
-        Reading::Key(_) => true,
-        Reading::Malformed => false,
-        Reading::NoEdge => false,
-        Reading::Max => true,
-    }
+    allows(read_record(rec), false, true)
+}
+
+// Whether a record is an edge's or "no edge".
+pub fn holds_edge(rec: &[u8]) -> bool
+    ensures { λ r. ⌜ r ≡ edgeReading (reading (now (rec .entry))) ⌝ }
+{
+    allows(read_record(rec), true, false)
 }
 
 // The bytes that the length field counts, as a part of the record.
@@ -90,4 +119,16 @@ pub fn key_bytes(rec: &[u8]) -> &[u8]
     let room = rec.len() - 2;
     let end = 2 + scan::least(n, room);
     &rec[2..end]
+}
+
+// The record at a place among several, as a part of them; an empty part where there are fewer.
+pub fn record_at(bytes: &[u8], i: usize) -> &[u8]
+    ensures { λ r. ⌜ now r ≡ recordAt (now (bytes .entry)) i ⌝ }
+{
+    if bytes.len() / RECORD_SIZE <= i {
+        return &bytes[..0];
+    }
+    let at = i * RECORD_SIZE;
+    let end = at + RECORD_SIZE;
+    &bytes[at..end]
 }

@@ -1,10 +1,10 @@
 -- `records::is_max` meets its contract.
-use Rattle.records.proofs.Reading.{max-by-field}
+use Rattle.records.proofs.Reading.{mark-told}
 use borrow.Author.Needs.{needs}
 use Rattle.records.proofs.read.is_max.Statement.{statement}
 use Rattle.records.proofs.read.is_max.Tie as tie
 
-ruleset rules = (needs, max-by-field)
+ruleset rules = (needs, mark-told)
 
 length-field-requires : tie.Need-length-field-requires
 length-field-requires c κs = search rules
