@@ -8,5 +8,7 @@ pub mod Records
 pub mod RangePrefix
 pub mod UpperBound
 pub mod Places
+pub mod Insertable
+pub mod Routing
 pub mod TableBytes
 pub mod Rows

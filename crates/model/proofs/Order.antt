@@ -10,7 +10,7 @@ use lib.Dec.{ltb}
 use lib.IntN.{pos, negsuc}
 use borrow.Author.Tests.{ltb-true, ltb-false, lt-ltb, le-ltb, not-true}
 use Rattle.model.specs.Key.{Key}
-use Rattle.model.specs.Order.{Element, key, max, lteKey, lte, lt, cmp}
+use Rattle.model.specs.Order.{Element, key, max, isKey, lteKey, lte, lt, cmp}
 
 -- the left key is not above the right one, by where they part
 pub data Lte : Key → Key → Type 0 where
@@ -169,6 +169,11 @@ lt-false a b h = not-true (lte b a) h
 -- and is what that says
 pub false-lt : (a b : Element) → lte b a ≡ false → lt a b ≡ true
 false-lt a b h = ap not h
+
+-- what is below another element is a key
+pub below-key : (a b : Element) → lt a b ≡ true → isKey a ≡ true
+below-key (key k) b h = refl
+below-key max b h = absurd (true≢false (sym (lte-max b) ∙ lt-false max b h))
 
 -- below is not above
 pub lt-lte : (a b : Element) → lt a b ≡ true → lte a b ≡ true

@@ -1,12 +1,12 @@
 -- The last place that passes a test, and tables whose pivots rise strictly.
-use mathlib.Core.Path.{_≡_, refl, sym, ap, _∙_}
+use mathlib.Core.Path.{_≡_, refl, sym, _∙_}
 use mathlib.Core.Logic.{⊎-elim}
 use mathlib.Core.Bool.{Bool, true, false, cond, not, _&&_, Bool·not-not, true≢false}
 use mathlib.Core.List.{List, [], _∷_}
 use Prim.Native.Nat.{ℕ, zero, suc, _-_, _≤_, _<_}
 use native.Mathlib.Nat.{eq-or-lt-of-le}
 use native.Mathlib.Omega.{arith}
-use borrow.Author.Tests.{ltb-true, ltb-false, lt-ltb, le-ltb}
+use borrow.Author.Tests.{lt-ltb, le-ltb}
 use lib.Dec.{ltb}
 use lib.ListN.{length, getD}
 use Rattle.model.specs.Key.{Key}
@@ -28,7 +28,7 @@ record Ends {A : Type 0} (test : A → Bool) (xs : List A) (d : A) (n : ℕ) : T
 ends : {A : Type 0} (test : A → Bool) (xs : List A) (d : A) → Ends test xs d (lastPlace test xs)
 unfolding lastPlace
 ends test [] d = record { most = omega arith; last = λ h. absurd (omega arith); after = λ i h k. absurd (omega arith) }
-ends {A} test (x ∷ xs) d = go (lastPlace test xs) (test x) refl (ends test xs d)
+ends test (x ∷ xs) d = go (lastPlace test xs) (test x) refl (ends test xs d)
   where
     later : (n : ℕ) → Ends test xs d n → (i : ℕ) → suc n ≤ i → i < length (x ∷ xs) → test (getD (x ∷ xs) i d) ≡ false
     later n w zero h k = absurd (omega arith)
@@ -47,26 +47,30 @@ ends {A} test (x ∷ xs) d = go (lastPlace test xs) (test x) refl (ends test xs 
         rw (lt-ltb 0 (suc n) (omega arith))
         (record { most = omega (arith, w .most); last = λ h. rw q′ (rw q at (w .last (omega arith))); after = later (suc n) w })
 
+-- where all that passes one test passes another, the number of the first is not above that of the other
+ends-le : {A : Type 0} (test test′ : A → Bool) (xs : List A) (d : A) (m n : ℕ)
+    → ((x : A) → test x ≡ true → test′ x ≡ true) → Ends test xs d m → Ends test′ xs d n → m ≤ n
+ends-le test test′ xs d m n f v w = ⊎-elim (λ h. h) (λ h. absurd (no-later h)) (le-or-lt m n)
+  where
+    no-later : n < m → ⊥
+    no-later h =
+        true≢false (sym (f (getD xs (m - 1) d) (v .last (omega arith))) ∙ w .after (m - 1) (omega arith) (omega (arith, v .most)))
+
+-- where all that passes one test passes another, the last place of the other is not before
+pub place-le : {A : Type 0} (test test′ : A → Bool) (xs : List A)
+    → ((x : A) → test x ≡ true → test′ x ≡ true) → lastPlace test xs ≤ lastPlace test′ xs
+unfolding lastPlace
+place-le test test′ [] f = omega arith
+place-le test test′ (x ∷ xs) f =
+    ends-le test test′ (x ∷ xs) x (lastPlace test (x ∷ xs)) (lastPlace test′ (x ∷ xs)) f (ends test (x ∷ xs) x) (ends test′ (x ∷ xs) x)
+
+-- the last place that passes is inside the list
+pub place-most : {A : Type 0} (test : A → Bool) (xs : List A) → lastPlace test xs ≤ length xs
+unfolding lastPlace
+place-most test [] = omega arith
+place-most test (x ∷ xs) = ends test (x ∷ xs) x .most
+
 module _ {A : Type 0} (test : A → Bool) (xs : List A) (d : A) where
-  -- where all that passes one test passes another, the other's last place is not before
-  ends-le : (test′ : A → Bool) → ((x : A) → test x ≡ true → test′ x ≡ true)
-      → (m n : ℕ) → Ends test xs d m → Ends test′ xs d n → m ≤ n
-  ends-le test′ f m n v w = ⊎-elim (λ h. h) (λ h. absurd (no-later h)) (le-or-lt m n)
-    where
-      no-later : n < m → ⊥
-      no-later h =
-          true≢false (sym (f (getD xs (m - 1) d) (v .last (omega arith))) ∙ w .after (m - 1) (omega arith) (omega (arith, v .most)))
-
-  ends-is : (n : ℕ) → Ends test xs d n → lastPlace test xs ≡ n
-  ends-is n w =
-      let m = lastPlace test xs in
-      let v = ends test xs d in
-      omega (arith, ends-le test (λ x h. h) m n v w, ends-le test (λ x h. h) n m w v)
-
-  -- the last place is inside the list
-  pub place-most : lastPlace test xs ≤ length xs
-  place-most = ends test xs d .most
-
   -- it passes the test
   pub place-passes : 0 < lastPlace test xs → test (getD xs (lastPlace test xs - 1) d) ≡ true
   place-passes = ends test xs d .last
@@ -75,14 +79,14 @@ module _ {A : Type 0} (test : A → Bool) (xs : List A) (d : A) where
   pub place-after : (i : ℕ) → lastPlace test xs ≤ i → i < length xs → test (getD xs i d) ≡ false
   place-after = ends test xs d .after
 
-  -- and this is the only such place
+  -- and it is the only such place
   pub place-is : (n : ℕ) → n ≤ length xs → (0 < n → test (getD xs (n - 1) d) ≡ true)
       → ((i : ℕ) → n ≤ i → i < length xs → test (getD xs i d) ≡ false) → lastPlace test xs ≡ n
-  place-is n h f g = ends-is n (record { most = h; last = f; after = g })
-
-  -- where all that passes one test passes another, the last place of the other is not before
-  pub place-le : (test′ : A → Bool) → ((x : A) → test x ≡ true → test′ x ≡ true) → lastPlace test xs ≤ lastPlace test′ xs
-  place-le test′ f = ends-le test′ f (lastPlace test xs) (lastPlace test′ xs) (ends test xs d) (ends test′ xs d)
+  place-is n h f g =
+      let m = lastPlace test xs in
+      let v = ends test xs d in
+      let w : Ends test xs d n = record { most = h; last = f; after = g } in
+      omega (arith, ends-le test test xs d m n (λ x k. k) v w, ends-le test test xs d n m (λ x k. k) w v)
 
 -- ---- the order's tests
 
@@ -133,7 +137,7 @@ sorted-at (p ∷ pt) zero (suc j) s h k = first-below p pt j s (omega arith)
 sorted-at (p ∷ pt) (suc i) zero s h k = absurd (omega arith)
 sorted-at (p ∷ pt) (suc i) (suc j) s h k = sorted-at pt i j (sorted-tail p pt s) (omega arith) (omega arith)
 
--- and not above itself
+-- and neither above itself nor above a later one
 pub sorted-lte : (pt : PivotTable) (i j : ℕ) → IsStrictlySorted pt ≡ true → i ≤ j → j < length pt → lte (pivotAt pt i) (pivotAt pt j) ≡ true
 sorted-lte pt i j s h k =
     ⊎-elim (λ e. rw e (lte-refl (pivotAt pt j))) (λ l. lt-lte (pivotAt pt i) (pivotAt pt j) (sorted-at pt i j s l k)) (eq-or-lt-of-le h)
@@ -141,14 +145,14 @@ sorted-lte pt i j s h k =
 -- ---- the last place in such a table
 
 module _ (strict : Bool) (e : Element) (pt : PivotTable) where
-  -- a scan from the front that stops at the first pivot that fails has found it
+  -- the place is where a scan from the front stops, at the first pivot that fails
   pub place-turn : (i : ℕ) → IsStrictlySorted pt ≡ true → i < length pt → (0 < i → passes strict e (pivotAt pt (i - 1)) ≡ true)
       → passes strict e (pivotAt pt i) ≡ false → lastPlace (passes strict e) pt ≡ i
   place-turn i s h f g =
       place-is (passes strict e) pt _ i (omega arith) f
       (λ j k l. passes-up strict e (pivotAt pt i) (pivotAt pt j) (sorted-lte pt i j s k l) g)
 
-  -- where the last pivot passes, it is the end
+  -- the place is the end where the last pivot passes
   pub place-all : 0 < length pt → passes strict e (lastPivot pt) ≡ true → lastPlace (passes strict e) pt ≡ length pt
   place-all h f = place-is (passes strict e) pt _ (length pt) (omega arith) (λ k. f) (λ i k l. absurd (omega arith))
 
@@ -165,7 +169,7 @@ module _ (strict : Bool) (e : Element) (pt : PivotTable) where
 
       inside : i < n → passes strict e (pivotAt pt i) ≡ ltb i n
       inside k =
-          let m = place-most (passes strict e) pt (pivotAt pt i) in
+          let m = place-most (passes strict e) pt in
           passes-down strict e (pivotAt pt i) (pivotAt pt (n - 1)) (sorted-lte pt i (n - 1) s (omega arith) (omega arith))
           (place-passes (passes strict e) pt _ (omega arith))
           ∙ sym (lt-ltb i n k)
@@ -174,7 +178,7 @@ module _ (strict : Bool) (e : Element) (pt : PivotTable) where
 abbrev pub within : Bool → Element → PivotTable → Bool
 within strict e pt = passes strict e (pivotAt pt 0) && not (passes strict e (lastPivot pt))
 
--- of an element within the table the place is past the first pivot, and not the end
+-- that is, some pivots pass and not all
 pub within-place : (strict : Bool) (e : Element) (pt : PivotTable) → IsStrictlySorted pt ≡ true → 2 ≤ length pt
     → within strict e pt ≡ (ltb 0 (lastPlace (passes strict e) pt) && ltb (lastPlace (passes strict e) pt) (length pt))
 within-place strict e pt s h = cc (place-at strict e pt 0 s (omega arith), place-at strict e pt (length pt - 1) s (omega arith), end)
@@ -189,12 +193,12 @@ within-place strict e pt s h = cc (place-at strict e pt 0 s (omega arith), place
         (le-or-lt (length pt) n)
 
 module _ (pt : PivotTable) (k : Key) where
-  -- a key is bounded where it is within the table
+  -- a key is bounded where it is within the table, not strictly
   pub bounded-within : BoundedKey pt k ≡ within false (key k) pt
   unfolding BoundedKey
   bounded-within = refl
 
-  -- and cuts off on the left where it is so strictly
+  -- a key cuts off on the left where it is within the table, strictly
   pub valid-within : ValidLeftCutOffKey pt k ≡ within true (key k) pt
   unfolding ValidLeftCutOffKey
   valid-within = rw Bool·not-not

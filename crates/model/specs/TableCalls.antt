@@ -33,6 +33,10 @@ pivotsRead (r ∷ rs) = cond (isNil rs) (elementReading (reading r)) (keyReading
 unfoldable pub edgesRead : List (List ℕ) → Bool
 edgesRead rs = all (λ (r : List ℕ). edgeReading (reading r)) rs
 
+-- the edges lent stand on the pivots lent
+abbrev pub edgesStand : List ℕ → List ℕ → Bool
+edgesStand p e = WFEdges (edges e) (elements p)
+
 -- causes 1 to 3 of pivots; whether another argument has cause 1 or 2 comes with them, since a smaller number of any argument comes first
 unfoldable pub pivotCauses : Bool → Bool → List ℕ → List Cause
 pivotCauses shape wrong p =
@@ -44,7 +48,7 @@ pivotCauses shape wrong p =
 unfoldable pub tableCauses : Bool → Bool → List ℕ → List ℕ → List Cause
 tableCauses shape wrong p e =
     pivotCauses (shape || notEdgeCount p e) (wrong || not (edgesRead (records e))) p
-    ++ ((not (WFEdges (edges e) (elements p)) ⇒ EmptyPrefix) ∷ [])
+    ++ ((not (edgesStand p e) ⇒ EmptyPrefix) ∷ [])
 
 -- WFPivots and WFEdges: "yes, or the number"
 abbrev pub wfPivotsAnswer : List ℕ → Decided

@@ -1,0 +1,4 @@
+pub mod Counts
+pub mod PivotPass
+pub mod EdgePass
+pub mod Table

@@ -1,0 +1,77 @@
+-- `table_checks::read_pivots` meets its contract.
+use Prim.Native.Nat.{_-_}
+use borrow.Author.Needs.{needs}
+use Rattle.table_checks.proofs.PivotPass.{Pass, start, place-fits, not-key, turn, not-element, falls, all-rise}
+use Rattle.table_checks.proofs.pivots.read_pivots.Statement.{statement}
+use Rattle.table_checks.proofs.pivots.read_pivots.Tie as tie
+
+ruleset rules = (needs, start, place-fits, not-key, turn, not-element, falls, all-rise)
+
+abbrev Inv-loop : tie.InvT-loop
+Inv-loop pivots count rises₀ i₀ rises i = Pass pivots i rises
+
+abbrev μ-loop : tie.MeasureT-loop
+μ-loop pivots count rises₀ i₀ rises i = count - i
+
+loop-holds : tie.Need-loop-holds Inv-loop μ-loop
+loop-holds c = search rules
+
+add-loop : tie.Need-add-loop Inv-loop μ-loop
+add-loop c = search rules
+
+record-at-requires : tie.Need-record-at-requires Inv-loop μ-loop
+record-at-requires c κs = search rules
+
+holds-key-requires : tie.Need-holds-key-requires Inv-loop μ-loop
+holds-key-requires c κs = search rules
+
+returns : tie.Need-returns Inv-loop μ-loop
+returns c = search rules
+
+rises-on-requires : tie.Need-rises-on-requires Inv-loop μ-loop
+rises-on-requires c κs = search rules
+
+add-i : tie.Need-add-i Inv-loop μ-loop
+add-i c = search rules
+
+loop-less : tie.Need-loop-less Inv-loop μ-loop
+loop-less c = search rules
+
+loop-again : tie.Need-loop-again Inv-loop μ-loop
+loop-again c = search rules
+
+record-at-requires-2 : tie.Need-record-at-requires-2 Inv-loop μ-loop
+record-at-requires-2 c κs = search rules
+
+holds-element-requires : tie.Need-holds-element-requires Inv-loop μ-loop
+holds-element-requires c κs = search rules
+
+returns-2 : tie.Need-returns-2 Inv-loop μ-loop
+returns-2 c = search rules
+
+returns-3 : tie.Need-returns-3 Inv-loop μ-loop
+returns-3 c = search rules
+
+returns-4 : tie.Need-returns-4 Inv-loop μ-loop
+returns-4 c = search rules
+
+pub read-pivots-spec : {M : Type 1} → statement M
+read-pivots-spec =
+    tie.close
+    (tie.spec
+    Inv-loop
+    μ-loop
+    loop-holds
+    add-loop
+    record-at-requires
+    holds-key-requires
+    returns
+    rises-on-requires
+    add-i
+    loop-less
+    loop-again
+    record-at-requires-2
+    holds-element-requires
+    returns-2
+    returns-3
+    returns-4)

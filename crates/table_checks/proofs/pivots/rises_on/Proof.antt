@@ -1,0 +1,36 @@
+-- `table_checks::rises_on` meets its contract.
+use Rattle.table_checks.proofs.PivotPass.{one-more}
+use borrow.Author.Needs.{needs}
+use Rattle.table_checks.proofs.pivots.rises_on.Statement.{statement}
+use Rattle.table_checks.proofs.pivots.rises_on.Tie as tie
+
+ruleset rules = (needs, one-more)
+
+record-at-requires : tie.Need-record-at-requires
+record-at-requires c κs = search rules
+
+add-record-at : tie.Need-add-record-at
+add-record-at c = search rules
+
+record-at-requires-2 : tie.Need-record-at-requires-2
+record-at-requires-2 c κs = search rules
+
+is-below-requires : tie.Need-is-below-requires
+is-below-requires c κs = search rules
+
+returns : tie.Need-returns
+returns c = search rules
+
+returns-2 : tie.Need-returns-2
+returns-2 c = search rules
+
+pub rises-on-spec : {M : Type 1} → statement M
+rises-on-spec =
+    tie.close
+    (tie.spec
+    record-at-requires
+    add-record-at
+    record-at-requires-2
+    is-below-requires
+    returns
+    returns-2)

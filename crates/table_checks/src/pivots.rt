@@ -1,0 +1,82 @@
+// The check of pivots.
+use model::Answer;
+use model::MAX_PIVOTS;
+use model::MIN_PIVOTS;
+use model::RECORD_SIZE;
+use model::Refusal;
+ghost use mathlib.Core.Path.{_≡_};
+ghost use mathlib.Core.Bool.{false, _&&_};
+ghost use Prim.Native.Nat.{_+_, _/_, _<_};
+ghost use lib.ListN.{length};
+ghost use Rattle.model.specs.Order.{lt};
+ghost use Rattle.model.specs.Record.{recordSize, recordAt, element};
+ghost use Rattle.model.specs.Refusals.{answer};
+ghost use Rattle.model.specs.TableCalls.{notPivotCount, pivotCauses};
+
+// Whether a slice isn't whole records, or not as many as a table may have.
+fn not_pivot_count(pivots: &[u8]) -> bool
+    ensures { λ r. ⌜ r ≡ notPivotCount (now (pivots .entry)) ⌝ }
+{
+    let count = pivots.len() / RECORD_SIZE;
+    if pivots.len() % RECORD_SIZE != 0 {
+        return true;
+    }
+    if count < MIN_PIVOTS {
+        return true;
+    }
+    MAX_PIVOTS < count
+}
+
+// Whether pivots that rise up to the place i also rise from there to the next.
+fn rises_on(pivots: &[u8], i: usize, rises: bool) -> bool
+    requires { ⌜ i < length (now pivots) / recordSize ⌝ }
+    ensures { λ r. ⌜ r ≡ (rises && lt (element (recordAt (now (pivots .entry)) i)) (element (recordAt (now (pivots .entry)) (i + 1)))) ⌝ }
+{
+    if rises {
+        return keys::is_below(
+            records::record_at(pivots, i),
+            records::record_at(pivots, i + 1),
+        );
+    }
+    false
+}
+
+// Causes 2 and 3, in one pass: each record is read, and compared with the next one.
+fn read_pivots(pivots: &[u8]) -> Answer
+    requires { ⌜ notPivotCount (now pivots) ≡ false ⌝ }
+    ensures { λ r. ⌜ r ≡ answer (pivotCauses false false (now (pivots .entry))) (length (now (pivots .entry)) / recordSize) ⌝ }
+{
+    let count = pivots.len() / RECORD_SIZE;
+    let mut rises = true;
+    let mut i = 0;
+    while i + 1 < count {
+        if !records::holds_key(records::record_at(pivots, i)) {
+            return Answer::Refused(Refusal::Malformed);
+        }
+        rises = rises_on(pivots, i, rises);
+        i += 1;
+    }
+    if !records::holds_element(records::record_at(pivots, i)) {
+        return Answer::Refused(Refusal::Malformed);
+    }
+    if !rises {
+        return Answer::Refused(Refusal::Unsorted);
+    }
+    Answer::Value(count)
+}
+
+// Causes 1 to 3 of pivots; else their count. The caller says whether another argument has cause 1, or cause 2.
+pub fn check_pivots(pivots: &[u8], shape: bool, wrong: bool) -> Answer
+    ensures { λ r. ⌜ r ≡ answer (pivotCauses shape wrong (now (pivots .entry))) (length (now (pivots .entry)) / recordSize) ⌝ }
+{
+    if shape {
+        return Answer::Refused(Refusal::Shape);
+    }
+    if not_pivot_count(pivots) {
+        return Answer::Refused(Refusal::Shape);
+    }
+    if wrong {
+        return Answer::Refused(Refusal::Malformed);
+    }
+    read_pivots(pivots)
+}
