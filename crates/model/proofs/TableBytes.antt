@@ -11,6 +11,8 @@ use lib.ListN.{length, length-map}
 use lib.Seq.{take-at, drop-at}
 use Rattle.model.specs.declared.Reading.{Reading}
 use Rattle.model.specs.declared.Reading.the-variants as reads
+use Rattle.model.specs.declared.Answer.{Answer}
+use Rattle.model.specs.declared.Answer.the-variants as answers
 use Rattle.model.specs.declared.Refusal.the-variants.{Shape, Malformed, Unsorted}
 use Rattle.model.specs.Key.{isNil, maxLen}
 use Rattle.model.specs.Order.{Element, key, max, lt}
@@ -18,8 +20,8 @@ use Rattle.model.specs.Record.{recordSize, element, edgeOf, pieces, join
 use Rattle.model.specs.Record.{reading, keyReading, elementReading}
 use Rattle.model.specs.Tables.{PivotTable, minPivots, maxPivots, pivotAt, edgeAt, all, shortElement, IsStrictlySorted, WFPivots}
 use Rattle.model.specs.TableCalls.{notPivotCount, pivotsRead, pivotCauses}
-use Rattle.model.specs.Refusals.{outcome, first}
-use Rattle.model.proofs.Causes.{none-here, none-later}
+use Rattle.model.specs.Refusals.{outcome, first, answer}
+use Rattle.model.proofs.Causes.{none-here, none-later, accepted}
 use Rattle.model.proofs.Lists.{getD-map}
 use Rattle.model.proofs.Order.{below-key}
 use Rattle.model.proofs.Places.{sorted-head, sorted-tail}
@@ -119,6 +121,11 @@ module _ (shape wrong : Bool) (p : List ℕ) (h : first (pivotCauses shape wrong
   -- the pivots are well formed
   pub causes-wf : WFPivots (elements p) ≡ true
   causes-wf = wf-of (elements p) causes-sorted (unfold elements in read-short (records p) causes-read) causes-least
+
+-- so are those of a table whose check is passed
+pub checked-wf : (shape wrong : Bool) (p : List ℕ) (n m : ℕ) (x : Answer) → x ≡ answer (pivotCauses shape wrong p) n → x ≡ answers.Value m
+    → WFPivots (elements p) ≡ true
+checked-wf shape wrong p n m x e h = causes-wf shape wrong p (accepted (pivotCauses shape wrong p) n x e m h)
 
 -- the record of an element is read as one
 element-reads : (e : Element) → shortElement e ≡ true → elementReading (reading (encode e)) ≡ true

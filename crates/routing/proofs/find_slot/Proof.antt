@@ -1,0 +1,31 @@
+-- `routing::find_slot` meets its contract.
+use Rattle.model.proofs.Causes.{handing-on}
+use Rattle.model.proofs.TableBytes.{checked-wf}
+use borrow.Author.Needs.{needs}
+use Rattle.routing.proofs.find_slot.Statement.{statement}
+use Rattle.routing.proofs.find_slot.Tie as tie
+
+ruleset rules = (needs, checked-wf, handing-on)
+
+check-pivots-requires : tie.Need-check-pivots-requires
+check-pivots-requires c κs = search rules
+
+enum-told : tie.Need-enum-told
+enum-told c = search rules
+
+slot-of-requires : tie.Need-slot-of-requires
+slot-of-requires c κs = search rules
+
+enum-known-r : tie.Need-enum-known-r
+enum-known-r c = search rules
+
+returns : tie.Need-returns
+returns c = search rules
+
+returns-2 : tie.Need-returns-2
+returns-2 c = search rules
+
+pub find-slot-spec : {M : Type 1} → statement M
+find-slot-spec =
+    tie.close
+    (tie.spec check-pivots-requires enum-told slot-of-requires enum-known-r returns returns-2)

@@ -1,0 +1,79 @@
+// The slot of a key in a table. No public function has a `requires`.
+use model::Answer;
+use model::MAX_LEN;
+use model::RECORD_SIZE;
+use model::Refusal;
+use model::Routed;
+ghost use mathlib.Core.Path.{_≡_};
+ghost use mathlib.Core.Bool.{true, not};
+ghost use mathlib.Core.List.{_∷_, []};
+ghost use Rattle.model.specs.declared.Refusal.the-variants.{OutOfRange};
+ghost use Rattle.model.specs.Order.{key, passes, lastPlace};
+ghost use Rattle.model.specs.Record.{elements};
+ghost use Rattle.model.specs.Tables.{WFPivots};
+ghost use Rattle.model.specs.Refusals.{_⇒_, routing};
+ghost use Rattle.model.specs.TableCalls.{slotCauses, routeAnswer, cutoffForLeftAnswer, cutoffForRightAnswer};
+ghost use Rattle.routing.specs.Sides.{inside, slotFor};
+
+// How many pivots are not above the key or, where strict, below it: they stand first.
+fn place(pivots: &[u8], k: &[u8], strict: bool) -> usize
+    requires { ⌜ WFPivots (elements (now pivots)) ≡ true ⌝ }
+    ensures { λ r. ⌜ r ≡ lastPlace (passes strict (key (now (k .entry)))) (elements (now (pivots .entry))) ⌝ }
+{
+    let count = pivots.len() / RECORD_SIZE;
+    let mut i = 0;
+    while i < count {
+        if !keys::passes(records::record_at(pivots, i), k, strict) {
+            return i;
+        }
+        i += 1;
+    }
+    i
+}
+
+// The slot that ends the pivots which pass, where there is one.
+fn slot_of(pivots: &[u8], k: &[u8], strict: bool) -> Routed
+    requires { ⌜ WFPivots (elements (now pivots)) ≡ true ⌝ }
+    ensures { λ r. ⌜ r ≡ routing ((not (inside strict (elements (now (pivots .entry))) (now (k .entry))) ⇒ OutOfRange) ∷ []) (slotFor strict (elements (now (pivots .entry))) (now (k .entry))) ⌝ }
+{
+    let n = place(pivots, k, strict);
+    if n == 0 {
+        return Routed::Refused(Refusal::OutOfRange);
+    }
+    if n == pivots.len() / RECORD_SIZE {
+        return Routed::Refused(Refusal::OutOfRange);
+    }
+    Routed::Slot(n - 1)
+}
+
+// Causes 1 to 3 and 5; else the slot.
+fn find_slot(pivots: &[u8], k: &[u8], strict: bool) -> Routed
+    ensures { λ r. ⌜ r ≡ routing (slotCauses (now (pivots .entry)) (now (k .entry)) (inside strict (elements (now (pivots .entry))) (now (k .entry)))) (slotFor strict (elements (now (pivots .entry))) (now (k .entry))) ⌝ }
+{
+    match table_checks::check_pivots(pivots, false, MAX_LEN < k.len()) {
+        Answer::Value(_) => slot_of(pivots, k, strict),
+        Answer::Refused(r) => Routed::Refused(r),
+    }
+}
+
+// Route: the slot of a key, whose left pivot is the last one not above it. Refuses 1, 2, 3 and 5.
+pub fn route(pivots: &[u8], key: &[u8]) -> Routed
+    ensures { λ r. ⌜ r ≡ routeAnswer (now (pivots .entry)) (now (key .entry)) ⌝ }
+{
+    find_slot(pivots, key, false)
+}
+
+// CutoffForLeft: the slot that a left cut at the key ends in, whose left pivot is the last one below it.
+// Refuses 1, 2, 3 and 5.
+pub fn cutoff_for_left(pivots: &[u8], key: &[u8]) -> Routed
+    ensures { λ r. ⌜ r ≡ cutoffForLeftAnswer (now (pivots .entry)) (now (key .entry)) ⌝ }
+{
+    find_slot(pivots, key, true)
+}
+
+// CutoffForRight: the slot that a right cut at the key begins in, which is the key's own. Refuses 1, 2, 3 and 5.
+pub fn cutoff_for_right(pivots: &[u8], key: &[u8]) -> Routed
+    ensures { λ r. ⌜ r ≡ cutoffForRightAnswer (now (pivots .entry)) (now (key .entry)) ⌝ }
+{
+    find_slot(pivots, key, false)
+}
