@@ -1,34 +1,17 @@
--- Two keys written one after the other, and the answers of a change of prefix.
+-- The answers of a change of prefix.
 use mathlib.Core.Path.{_≡_, refl, sym, ap, _∙_}
 use mathlib.Core.Bool.{Bool, true, false, not}
 use mathlib.Core.List.{List, _++_}
 use Prim.Native.Nat.{ℕ, _+_, _-_, _≤_, _<_}
 use native.Mathlib.Omega.{arith}
 use borrow.Author.Tests.{lt-ltb, le-ltb, not-false}
-use borrow.Rule.Slice.PartMut.{putMid}
 use lib.Dec.{ltb}
-use lib.ListN.{length, take, drop, length-drop}
-use lib.Seq.{take-append-seam, drop-append-seam}
+use lib.ListN.{length, take, drop}
 use Rattle.model.specs.Key.{IsPrefix, changePrefix, tooLong}
-use Rattle.model.specs.Refusals.{over, into}
+use Rattle.model.specs.Refusals.{over}
 use Rattle.model.specs.Calls.{noRoom}
-use Rattle.model.proofs.Lists.{rest, lent-on, length-over, over-append, into-over}
+use Rattle.model.proofs.Lists.{rest}
 use Rattle.model.proofs.Prefix.{length-change, prefix-length}
-
-take-over : (a d : List ℕ) → take (length a) (over a d) ≡ a
-unfolding over
-take-over a d = take-append-seam a (drop (length a) d)
-
-drop-over : (a d : List ℕ) → drop (length a) (over a d) ≡ drop (length a) d
-unfolding over
-drop-over a d = drop-append-seam a (drop (length a) d)
-
-pub joined-is : (a b d v w : List ℕ) → length a + length b ≤ length d → v ≡ into a d
-    → w ≡ into b (take (length v - length a) (drop (length a) v)) → putMid (length a) (length v - length a) v w ≡ over (a ++ b) d
-joined-is a b d v w h e g =
-    let p : v ≡ over a d = e ∙ into-over a d (omega arith) in
-    let q : length b ≤ length (drop (length a) d) = omega (arith, length-drop (length a) d) in
-    rw (lent-on, g, rest, p, take-over, drop-over, into-over b (drop (length a) d) q, over-append)
 
 -- a prefix that was found ends inside the key
 pub prefix-inside : (p k : List ℕ) (t : Bool) → t ≡ IsPrefix p k → not t ≡ false → length p ≤ length k

@@ -90,6 +90,23 @@ unfolding outcome
 none-later true r cs h = let z : _≡_ {A = ℕ} 0 1 = cc in absurd (omega arith)
 none-later false r cs h = h
 
+-- where none of two lists applies, none of either does
+module _ (cs ds : List Cause) (h : first (cs ++ ds) ≡ none) where
+  neither : (first cs ≡ none) × (first ds ≡ none)
+  neither = go (first cs) refl
+    where
+      go : (o : Option Refusal) → first cs ≡ o → (first cs ≡ none) × (first ds ≡ none)
+      go none e = (e, after some none (first ds) cs ds e refl ∙ h)
+      go (some r) e =
+          let p = refused-first some none (some r) cs ds r e refl in
+          let z : _≡_ {A = ℕ} 0 1 = cc in absurd (omega arith)
+
+  pub none-before : first cs ≡ none
+  none-before = neither .0
+
+  pub none-after : first ds ≡ none
+  none-after = neither .1
+
 -- ---- what an inner call's answer says of its causes
 
 module _ (cs : List Cause) (n : ℕ) (a : Answer) (e : a ≡ answer cs n) where

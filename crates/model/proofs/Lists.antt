@@ -1,5 +1,5 @@
 -- Facts on lists and numbers that the proofs of several crates cite.
-use mathlib.Core.Path.{_≡_, refl}
+use mathlib.Core.Path.{_≡_, refl, _∙_}
 use mathlib.Core.Bool.{Bool, true, false}
 use mathlib.Core.List.{List, [], _∷_, _++_, map, append-assoc, append-nil}
 use mathlib.Core.Logic.{_⊎_, inl, inr, ⊎-elim}
@@ -9,7 +9,7 @@ use native.Mathlib.Omega.{arith}
 use lib.Dec.{leb}
 use borrow.Author.Tests.{leb-true, leb-false}
 use lib.ListN.{length, take, drop, getD, length-append, length-drop, drop-of-length-le}
-use lib.Seq.{drop-cons, drop-drop, take-all, take-length}
+use lib.Seq.{drop-cons, drop-drop, take-all, take-length, take-append-seam, drop-append-seam}
 use borrow.Rule.Slice.PartMut.{putMid}
 use Rattle.model.specs.Key.{Key, maxLen}
 use Rattle.model.specs.Record.{clipped}
@@ -69,6 +69,22 @@ length-over w d h = rw (length-append, length-drop) (omega arith)
 pub over-append : (a b d : List ℕ) → a ++ over b (drop (length a) d) ≡ over (a ++ b) d
 unfolding over
 over-append a b d = rw (drop-drop, length-append, append-assoc)
+
+take-over : (a d : List ℕ) → take (length a) (over a d) ≡ a
+unfolding over
+take-over a d = take-append-seam a (drop (length a) d)
+
+drop-over : (a d : List ℕ) → drop (length a) (over a d) ≡ drop (length a) d
+unfolding over
+drop-over a d = drop-append-seam a (drop (length a) d)
+
+-- a is written, and b to what is lent on after it
+pub written-on : (n : ℕ) (a b d v w : List ℕ) → n ≡ length a → length a + length b ≤ length d → v ≡ into a d
+    → w ≡ into b (take (length v - n) (drop n v)) → putMid n (length v - n) v w ≡ over (a ++ b) d
+written-on n a b d v w m h e g =
+    let p : v ≡ over a d = e ∙ into-over a d (omega arith) in
+    let q : length b ≤ length (drop (length a) d) = omega (arith, length-drop (length a) d) in
+    rw (lent-on, g, rest, p, m, take-over, drop-over, into-over b (drop (length a) d) q, over-append)
 
 -- a key of at most 64 bytes has room in a record
 pub clipped-all : (k : Key) → length k ≤ maxLen → clipped k ≡ k

@@ -1,5 +1,6 @@
 -- `keys::join` meets its contract.
-use Rattle.keys.proofs.Changing.{joined-is}
+use mathlib.Core.Path.{refl}
+use Rattle.model.proofs.Lists.{written-on}
 use borrow.Author.Needs.{needs}
 use Rattle.keys.proofs.change.join.Statement.{statement}
 use Rattle.keys.proofs.change.join.Tie as tie
@@ -23,7 +24,7 @@ same-length : tie.Need-same-length
 same-length c = search needs
 
 returns : tie.Need-returns
-returns c = search joined-is
+returns c = search (written-on, refl)
 
 pub join-spec : {M : Type 1} → statement M
 join-spec =

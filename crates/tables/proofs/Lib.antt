@@ -1,0 +1,4 @@
+pub mod Ends
+pub mod Fitting
+pub mod Getting
+pub mod Starting

@@ -1,0 +1,22 @@
+-- The first table, written.
+use mathlib.Core.Path.{_≡_, refl, sym, ap, _∙_}
+use mathlib.Core.List.{List, [], _∷_, _++_, append-nil}
+use Prim.Native.Nat.{ℕ, _+_, _-_, _≤_, _<_}
+use native.Mathlib.Omega.{arith}
+use lib.ListN.{length, take, drop}
+use borrow.Rule.Slice.PartMut.{putMid}
+use Rattle.model.specs.Record.{recordOf, clipped, encode, joined, encodeAll}
+use Rattle.model.specs.Order.{key, max}
+use Rattle.model.specs.Tables.{InitPivotTable}
+use Rattle.model.specs.Refusals.{over, into}
+use Rattle.model.proofs.Lists.{written-on}
+use Rattle.model.proofs.Record.{length-record}
+
+-- one record, and in the rest the other
+pub both-written : (d v w : List ℕ) → 132 ≤ length d → v ≡ into (recordOf 0 (clipped [])) d
+    → w ≡ into (recordOf 65535 (clipped [])) (take (length v - 66) (drop 66 v)) → putMid 66 (length v - 66) v w ≡ over (encodeAll InitPivotTable) d
+unfolding encodeAll joined encode InitPivotTable clipped
+both-written d v w h e g =
+    let l = length-record 0 [] (omega arith) in
+    let m = length-record 65535 [] (omega arith) in
+    rw append-nil (written-on 66 (recordOf 0 []) (recordOf 65535 []) d v w (sym l) (omega arith) e g)

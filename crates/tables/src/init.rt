@@ -1,0 +1,19 @@
+// The first table.
+use model::Answer;
+use model::Refusal;
+ghost use mathlib.Core.Path.{_≡_};
+ghost use Rattle.model.specs.TableCalls.{initPivotTableAnswer, initPivotTableLeaves};
+
+// InitPivotTable: the pivots of the first table, the empty key and max, at the head of dest. Answers 2. Refuses 10.
+pub fn init_pivot_table(dest: &mut [u8]) -> Answer
+    ensures answered { λ r. ⌜ r ≡ initPivotTableAnswer (now (dest .entry)) ⌝ }
+    ensures written { λ r. ⌜ now (dest .exit) ≡ initPivotTableLeaves (now (dest .entry)) ⌝ }
+{
+    if dest.len() < 132 {
+        return Answer::Refused(Refusal::NoRoom);
+    }
+    let none = [0u8; 1];
+    records::put_record(0, &none[..0], dest);
+    records::put_record(65535, &none[..0], &mut dest[66..]);
+    Answer::Value(2)
+}

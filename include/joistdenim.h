@@ -1,0 +1,81 @@
+/*
+ * joistdenim: keys of 0 to 64 bytes in order. Link with libjoistdenim.a.
+ *
+ * One rule for every function:
+ * - It returns 0, or the number of the first refusal that applies over all arguments.
+ * - What it answers goes through the last parameter, a pointer to one number.
+ *   A refusal leaves that number, like every lent byte, as it was.
+ * - A slice is a pointer and a length in bytes. A slice that is written overlaps nothing else
+ *   of the call. An empty slice has any pointer that isn't null.
+ * - A result stands at the head of its destination; the bytes after it stay as they were.
+ *
+ * A record has JD_RECORD_SIZE bytes: a length field of two bytes, high byte first, and
+ * JD_MAX_LEN bytes, zero after the key, which begins at byte 2. The field is the key's length,
+ * JD_NO_EDGE or JD_MAX; all else is malformed, and so is a mark before a byte that isn't zero.
+ * An element is a record with a key or max. An entry has JD_ENTRY_SIZE bytes: a record with a
+ * key, and a number of four bytes. A key or prefix argument is lent as its bytes alone.
+ */
+#ifndef JOISTDENIM_H
+#define JOISTDENIM_H
+
+#include <stddef.h>
+#include <stdint.h>
+
+#define JD_MAX_LEN 64
+#define JD_RECORD_SIZE 66
+#define JD_ENTRY_SIZE 70
+
+/* The two marks in a record's length field. */
+#define JD_NO_EDGE 65534
+#define JD_MAX 65535
+
+enum jd_refusal {
+    JD_SHAPE = 1,        /* a slice isn't the records it should be */
+    JD_MALFORMED = 2,    /* a malformed record, a wrong mark, or a key or prefix over 64 bytes */
+    JD_UNSORTED = 3,     /* pivots don't rise strictly */
+    JD_EMPTY_PREFIX = 4, /* an edge where the range's prefix is empty */
+    JD_OUT_OF_RANGE = 5, /* the key is outside the table's range */
+    JD_NO_SUCH_SLOT = 6, /* no such slot, or no key at that place */
+    JD_NOT_PREFIX = 7,   /* the old prefix doesn't begin the key */
+    JD_TOO_LONG = 8,     /* a produced key passes 64 bytes */
+    JD_NOT_BELOW = 9,    /* left isn't below right */
+    JD_NO_ROOM = 10      /* a destination is too short */
+};
+
+#ifdef __cplusplus
+extern "C" {
+#endif
+
+/* The order of two elements: -1, 0 or 1. Refuses JD_SHAPE, JD_MALFORMED. */
+uint32_t jd_compare(const uint8_t *a, size_t a_len, const uint8_t *b, size_t b_len,
+                    int64_t *order);
+
+/* The length of a pivot record's key. Refuses JD_SHAPE, JD_MALFORMED (both marks too). */
+uint32_t jd_pivot_key(const uint8_t *record, size_t record_len, uint64_t *length);
+
+/* The length of an entry's key. Refuses JD_SHAPE, JD_MALFORMED (both marks too). */
+uint32_t jd_entry_key(const uint8_t *entry, size_t entry_len, uint64_t *length);
+
+/* Writes the new prefix and what the key has after the old one; answers the new key's length.
+ * Refuses JD_MALFORMED, JD_NOT_PREFIX, JD_TOO_LONG, JD_NO_ROOM. */
+uint32_t jd_change_prefix(const uint8_t *key, size_t key_len,
+                          const uint8_t *old_prefix, size_t old_prefix_len,
+                          const uint8_t *new_prefix, size_t new_prefix_len,
+                          uint8_t *dest, size_t dest_len, uint64_t *length);
+
+/* The length of the range's prefix, which begins the left key. For left below right it is the
+ * longest prefix that all keys from left up to, but without, right share. Left is a key, right
+ * an element. Refuses JD_SHAPE, JD_MALFORMED. */
+uint32_t jd_pivot_lcp(const uint8_t *left, size_t left_len,
+                      const uint8_t *right, size_t right_len, uint64_t *length);
+
+/* Writes the prefix's upper bound, one record: its last byte that isn't FF raised by 1 and the
+ * rest dropped, or max where there is none. Answers 1. Refuses JD_MALFORMED, JD_NO_ROOM. */
+uint32_t jd_shortest_uncommon_prefix(const uint8_t *prefix, size_t prefix_len,
+                                     uint8_t *dest, size_t dest_len, uint64_t *written);
+
+#ifdef __cplusplus
+}
+#endif
+
+#endif

@@ -1,0 +1,75 @@
+//! A call in both implementations, and what is asked of it.
+use crate::lent::{is_as_before, Lent};
+use std::fmt;
+
+/// What an argument's slice should hold.
+#[derive(Clone, Copy)]
+pub enum Kind {
+    Key,
+    Record,
+    Entry,
+}
+
+pub struct Call {
+    pub name: &'static str,
+    /// The slices, in the order of the C function.
+    pub arguments: &'static [(&'static str, Kind)],
+    pub writes: bool,
+    pub archive: fn(&Asked, &mut Lent) -> u32,
+    /// As C does it: the status returned, the destination and the number changed in place.
+    pub reference: fn(&Asked, &mut [u8], &mut u64) -> u32,
+}
+
+/// The arguments of one case; a call that has no place or destination doesn't look at it.
+#[derive(Clone, Copy)]
+pub struct Asked<'a> {
+    pub slices: &'a [&'a [u8]],
+    pub place: u64,
+    pub dest: usize,
+}
+
+/// What a call returned and left.
+pub struct Seen<'a> {
+    pub status: u32,
+    pub number: u64,
+    pub dest: &'a [u8],
+}
+
+pub struct Hex<'a>(pub &'a [u8]);
+
+impl fmt::Display for Hex<'_> {
+    fn fmt(&self, f: &mut fmt::Formatter<'_>) -> fmt::Result {
+        write!(f, "[{}]", self.0.len())?;
+        self.0.iter().try_for_each(|b| write!(f, "{b:02x}"))
+    }
+}
+
+impl fmt::Display for Seen<'_> {
+    fn fmt(&self, f: &mut fmt::Formatter<'_>) -> fmt::Result {
+        write!(f, "returned {}", self.status)?;
+        match self.number {
+            number if is_as_before(number) => write!(f, ", number as it was")?,
+            number => write!(f, ", number {}", number as i64)?,
+        }
+        write!(f, ", left {}", Hex(self.dest))
+    }
+}
+
+impl Call {
+    /// The case in full: each argument's name, length and bytes.
+    pub fn text(&self, asked: &Asked) -> String {
+        let mut parts: Vec<String> = self
+            .arguments
+            .iter()
+            .zip(asked.slices)
+            .map(|((name, _), slice)| format!("{name} {}", Hex(slice)))
+            .collect();
+        if asked.place != 0 {
+            parts.push(format!("place {}", asked.place));
+        }
+        if self.writes {
+            parts.push(format!("dest of {}", asked.dest));
+        }
+        format!("{}({})", self.name, parts.join(", "))
+    }
+}

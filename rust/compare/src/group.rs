@@ -1,0 +1,133 @@
+//! A group of cases: one test.
+use crate::call::{Asked, Call, Seen};
+use crate::lent::{before, number_before, Lent};
+
+/// What is written down by hand for a case.
+pub enum Wanted<'a> {
+    Refusal(u32),
+    /// The number, and what stands at the head of the destination.
+    Answer(i64, &'a [u8]),
+}
+
+#[derive(Default)]
+pub struct Group {
+    cases: u64,
+    failure: Option<String>,
+    lent: Lent,
+    reference: Vec<u8>,
+}
+
+impl Group {
+    /// One case of a call without a destination.
+    pub fn ask(&mut self, call: &Call, slices: &[&[u8]]) {
+        self.compare(call, slices, 0);
+    }
+
+    /// One case: status, number, every byte of the destination and around it, and every
+    /// argument must be what the reference leaves.
+    pub fn compare(&mut self, call: &Call, slices: &[&[u8]], dest: usize) {
+        let place = 0;
+        self.case(
+            call,
+            &Asked {
+                slices,
+                place,
+                dest,
+            },
+        );
+    }
+
+    pub fn case(&mut self, call: &Call, asked: &Asked) {
+        self.run(call, asked, None);
+    }
+
+    /// One case whose result is written down: both implementations must give it.
+    pub fn expect(&mut self, call: &Call, asked: &Asked, wanted: &Wanted) {
+        self.run(call, asked, Some(wanted));
+    }
+
+    fn run(&mut self, call: &Call, asked: &Asked, wanted: Option<&Wanted>) {
+        if self.failure.is_some() {
+            return;
+        }
+        self.cases += 1;
+        let salt = self.cases as u8;
+        self.lent.fill(asked, salt);
+        let status = (call.archive)(asked, &mut self.lent);
+        self.reference.clear();
+        self.reference.extend_from_slice(before(asked.dest, salt));
+        let mut number = number_before(salt);
+        let reference = Seen {
+            status: (call.reference)(asked, &mut self.reference, &mut number),
+            number,
+            dest: &self.reference,
+        };
+        let archive = Seen {
+            status,
+            number: self.lent.number(),
+            dest: self.lent.left_in_dest(),
+        };
+        let fault = fault(&archive, &reference, wanted, salt)
+            .or_else(|| (!self.lent.is_whole(asked, salt)).then_some("bytes around it changed"));
+        if let Some(fault) = fault {
+            let case = call.text(asked);
+            let text = format!("{case}: {fault}; archive {archive}; reference {reference}");
+            self.failure = Some(text);
+        }
+    }
+
+    /// One case of another sort, with a text for where it fails.
+    pub fn check(&mut self, holds: bool, text: impl FnOnce() -> String) {
+        if self.failure.is_none() {
+            self.cases += 1;
+            if !holds {
+                self.failure = Some(text());
+            }
+        }
+    }
+
+    pub fn fail(&mut self, text: &str) {
+        self.failure.get_or_insert_with(|| text.to_string());
+    }
+
+    /// Prints the group's line. A group without a case has failed.
+    pub fn report(&self, name: &str) -> bool {
+        let none = (self.cases == 0).then_some("no case was run");
+        match self.failure.as_deref().or(none) {
+            None => println!("ok {name} ({} cases)", self.cases),
+            Some(text) => println!("FAILED {name}: {text}"),
+        }
+        self.failure.is_none() && self.cases > 0
+    }
+}
+
+fn fault(
+    archive: &Seen,
+    reference: &Seen,
+    wanted: Option<&Wanted>,
+    salt: u8,
+) -> Option<&'static str> {
+    if archive.status != reference.status {
+        return Some("the status differs");
+    }
+    if archive.number != reference.number {
+        return Some("the number differs");
+    }
+    if archive.dest != reference.dest {
+        return Some("the destination differs");
+    }
+    let was = before(archive.dest.len(), salt);
+    if archive.status != 0 && (archive.number != number_before(salt) || archive.dest != was) {
+        return Some("a refusal changed something");
+    }
+    let as_written_down = match wanted {
+        None => true,
+        Some(Wanted::Refusal(status)) => archive.status == *status,
+        Some(Wanted::Answer(number, head)) => {
+            let (written, rest) = archive.dest.split_at(head.len());
+            let accepted = archive.status == 0 && archive.number == *number as u64;
+            accepted && written == *head && *rest == was[head.len()..]
+        }
+    };
+    (!as_written_down).then_some("not what is written down")
+}

@@ -1,0 +1,74 @@
+//! Keys, records and random numbers to make cases of.
+
+pub const BYTES: [u8; 4] = [0x00, 0x01, 0xFE, 0xFF];
+pub const NO_EDGE: u16 = 65_534;
+pub const MAX: u16 = 65_535;
+
+pub type Record = [u8; 66];
+
+/// All keys of up to `longest` bytes over 00, 01, FE, FF: 341 for 4.
+pub fn small_keys(longest: usize) -> Vec<Vec<u8>> {
+    let mut keys = vec![vec![]];
+    let mut from = 0;
+    for _ in 0..longest {
+        let until = keys.len();
+        for i in from..until {
+            for byte in BYTES {
+                keys.push([&keys[i][..], &[byte]].concat());
+            }
+        }
+        from = until;
+    }
+    keys
+}
+
+/// The record of a key.
+pub fn record(key: &[u8]) -> Record {
+    let mut record = field_record(key.len() as u16);
+    record[2..2 + key.len()].copy_from_slice(key);
+    record
+}
+
+/// A record with this length field and zeros.
+pub fn field_record(field: u16) -> Record {
+    let mut record = [0; 66];
+    record[..2].copy_from_slice(&field.to_be_bytes());
+    record
+}
+
+/// An entry with this record and a number without a zero byte.
+pub fn entry(record: &Record) -> [u8; 70] {
+    let mut entry = [0x91; 70];
+    entry[..66].copy_from_slice(record);
+    entry
+}
+
+/// Bytes that differ from place to place and hold no FF.
+pub fn counted(len: usize) -> Vec<u8> {
+    (0..len).map(|i| 0x20 + (i % 199) as u8).collect()
+}
+
+/// Random numbers that are the same in every run.
+pub struct Xorshift(u64);
+
+impl Xorshift {
+    pub fn new(seed: u64) -> Self {
+        Xorshift(seed ^ 0x9E37_79B9_7F4A_7C15)
+    }
+
+    pub fn next(&mut self) -> u64 {
+        self.0 ^= self.0 << 13;
+        self.0 ^= self.0 >> 7;
+        self.0 ^= self.0 << 17;
+        self.0
+    }
+
+    /// A number below `limit`.
+    pub fn below(&mut self, limit: usize) -> usize {
+        ((self.next() >> 16) % limit as u64) as usize
+    }
+
+    pub fn one_in(&mut self, n: usize) -> bool {
+        self.below(n) == 0
+    }
+}

@@ -1,0 +1,143 @@
+//! What is lent to one call of the archive, with guard bytes around each slice and around the
+//! number behind the pointer.
+use crate::call::Asked;
+use std::sync::OnceLock;
+
+const GUARD: usize = 16;
+/// Around an argument: a scan that runs on past its end would take FF for more of a run.
+const ARGUMENT_GUARD: u8 = 0xFF;
+const MOST_SLICES: usize = 3;
+
+#[derive(Default)]
+struct Guarded {
+    bytes: Vec<u8>,
+    guard: u8,
+}
+
+impl Guarded {
+    fn fill(&mut self, content: &[u8], guard: u8) {
+        self.guard = guard;
+        self.bytes.clear();
+        self.bytes.resize(GUARD, guard);
+        self.bytes.extend_from_slice(content);
+        self.bytes.resize(content.len() + 2 * GUARD, guard);
+    }
+
+    fn content(&self) -> &[u8] {
+        &self.bytes[GUARD..self.bytes.len() - GUARD]
+    }
+
+    fn is_whole(&self) -> bool {
+        let (head, rest) = self.bytes.split_at(GUARD);
+        let tail = &rest[rest.len() - GUARD..];
+        head.iter().chain(tail).all(|&b| b == self.guard)
+    }
+
+    fn pointer(&mut self) -> *mut u8 {
+        self.bytes[GUARD..].as_mut_ptr()
+    }
+}
+
+/// A lent slice as C sees it.
+#[derive(Clone, Copy)]
+pub struct Part {
+    pub at: *const u8,
+    pub len: usize,
+}
+
+/// A lent destination as C sees it.
+pub struct Dest {
+    pub at: *mut u8,
+    pub len: usize,
+}
+
+pub struct Lent {
+    slices: [Guarded; MOST_SLICES],
+    dest: Guarded,
+    answer: [u64; 3],
+}
+
+impl Default for Lent {
+    fn default() -> Self {
+        let empty = || {
+            let mut slice = Guarded::default();
+            slice.fill(&[], ARGUMENT_GUARD);
+            slice
+        };
+        Lent {
+            slices: std::array::from_fn(|_| empty()),
+            dest: empty(),
+            answer: [0; 3],
+        }
+    }
+}
+
+impl Lent {
+    pub fn fill(&mut self, asked: &Asked, salt: u8) {
+        for (slice, content) in self.slices.iter_mut().zip(asked.slices) {
+            slice.fill(content, ARGUMENT_GUARD);
+        }
+        self.dest.fill(before(asked.dest, salt), !salt);
+        self.answer = [number_before(salt); 3];
+    }
+
+    pub fn slices(&mut self) -> [Part; MOST_SLICES] {
+        // A mutable pointer, so that a write through it would be seen and not be undefined.
+        self.slices.each_mut().map(|slice| Part {
+            at: slice.pointer(),
+            len: slice.content().len(),
+        })
+    }
+
+    pub fn dest(&mut self) -> Dest {
+        Dest {
+            at: self.dest.pointer(),
+            len: self.dest.content().len(),
+        }
+    }
+
+    /// The pointer for the answer; to be taken last, after the slices.
+    pub fn answer(&mut self) -> *mut u64 {
+        self.answer[1..].as_mut_ptr()
+    }
+
+    pub fn number(&self) -> u64 {
+        self.answer[1]
+    }
+
+    pub fn left_in_dest(&self) -> &[u8] {
+        self.dest.content()
+    }
+
+    /// Whether every lent byte but the destination's own, and every guard, is as it was.
+    pub fn is_whole(&self, asked: &Asked, salt: u8) -> bool {
+        let mut arguments = self.slices.iter().zip(asked.slices);
+        arguments.all(|(lent, content)| lent.content() == *content && lent.is_whole())
+            && self.dest.is_whole()
+            && self.answer[0] == number_before(salt)
+            && self.answer[2] == number_before(salt)
+    }
+}
+
+const NUMBER_BEFORE: u64 = 0xA5C3_5A3C_9669_7800;
+
+/// What the number behind the pointer is before a call: no answer of any call.
+pub fn number_before(salt: u8) -> u64 {
+    NUMBER_BEFORE | u64::from(salt)
+}
+
+pub fn is_as_before(number: u64) -> bool {
+    number & !0xFF == NUMBER_BEFORE
+}
+
+/// What stands in a destination before a call. It differs from case to case, so that a byte
+/// written can't always be the byte that was there.
+pub fn before(len: usize, salt: u8) -> &'static [u8] {
+    const MOST: usize = 8192;
+    static PATTERN: OnceLock<Vec<u8>> = OnceLock::new();
+    let pattern = PATTERN.get_or_init(|| {
+        let mut random = crate::inputs::Xorshift::new(0x5EED);
+        (0..MOST).map(|_| random.next() as u8).collect()
+    });
+    &pattern[usize::from(salt)..][..len]
+}

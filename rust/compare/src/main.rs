@@ -1,0 +1,104 @@
+//! Runs the archive and the reference on the same cases. A line for each group of cases, then
+//! 'N passed, M failed' over the groups; the status is 1 where one failed.
+mod call;
+mod changes;
+mod group;
+mod inputs;
+mod key_calls;
+mod lengths;
+mod lent;
+mod malformed;
+mod orders;
+mod random;
+mod range_prefixes;
+mod rows;
+mod upper_bounds;
+mod wrapper;
+
+use group::Group;
+use std::panic::{catch_unwind, AssertUnwindSafe};
+use std::process::ExitCode;
+
+struct Test {
+    name: String,
+    body: Box<dyn Fn(&mut Group)>,
+}
+
+fn test(name: impl Into<String>, body: impl Fn(&mut Group) + 'static) -> Test {
+    Test {
+        name: name.into(),
+        body: Box::new(body),
+    }
+}
+
+fn tests_by_hand() -> Vec<Test> {
+    vec![
+        test("rows 1 to 7: range prefix", rows::range_prefixes),
+        test("rows 8 to 10: upper bound", rows::upper_bounds),
+        test("orders by hand", rows::orders),
+        test("keys of 64 and 65 bytes", rows::key_limits),
+        test("produced keys of 64 and 65 bytes", rows::changes),
+    ]
+}
+
+fn tests_of_one_call() -> Vec<Test> {
+    vec![
+        test("compare: all pairs", orders::all_pairs),
+        test("compare: marks", orders::marks),
+        test("compare: first differences", orders::first_differences),
+        test("pivot_lcp: all pairs", range_prefixes::all_pairs),
+        test("pivot_lcp: up to max", range_prefixes::up_to_max),
+        test("pivot_lcp: runs of FF", range_prefixes::runs_of_ff),
+        test(
+            "pivot_lcp: first differences",
+            range_prefixes::first_differences,
+        ),
+        test("change_prefix: all pairs", changes::all_pairs),
+        test("change_prefix: all lengths", changes::all_lengths),
+        test(
+            "change_prefix: first differences",
+            changes::first_differences,
+        ),
+        test("shortest_uncommon_prefix: small", upper_bounds::small),
+        test("shortest_uncommon_prefix: all FF", upper_bounds::all_ff),
+        test(
+            "shortest_uncommon_prefix: last other",
+            upper_bounds::last_other,
+        ),
+        test("pivot_key: every record", malformed::pivot_key),
+        test("entry_key: every record", malformed::entry_key),
+        test("compare: every record", malformed::compare),
+        test("pivot_lcp: every record", malformed::pivot_lcp),
+        test("wrapper: keys and records", wrapper::keys_and_records),
+        test("wrapper: destinations", wrapper::destinations),
+    ]
+}
+
+fn tests_of_every_call() -> Vec<Test> {
+    let mut tests = vec![];
+    for call in key_calls::CALLS {
+        let name = format!("{}: every length", call.name);
+        tests.push(test(name, |group| lengths::every_length(group, call)));
+        let name = format!("{}: random", call.name);
+        tests.push(test(name, |group| random::cases(group, call)));
+    }
+    tests
+}
+
+fn main() -> ExitCode {
+    let (mut passed, mut failed) = (0, 0);
+    let tests = [tests_by_hand(), tests_of_one_call(), tests_of_every_call()];
+    for test in tests.into_iter().flatten() {
+        let mut group = Group::default();
+        if catch_unwind(AssertUnwindSafe(|| (test.body)(&mut group))).is_err() {
+            group.fail("it stopped by a panic");
+        }
+        if group.report(&test.name) {
+            passed += 1;
+        } else {
+            failed += 1;
+        }
+    }
+    println!("{passed} passed, {failed} failed");
+    ExitCode::from(u8::from(failed > 0))
+}

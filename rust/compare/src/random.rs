@@ -1,0 +1,85 @@
+//! One group for each call: random slices, the same in every run. The slices of a case come from
+//! one random key, so that they often begin alike; some are changed or are random bytes alone.
+use crate::call::{Call, Kind};
+use crate::group::Group;
+use crate::inputs::{entry, field_record, record, Xorshift, BYTES, MAX, NO_EDGE};
+
+const CASES: usize = 200_000;
+const SEED: u64 = 20_250_627;
+
+fn random_bytes(random: &mut Xorshift, len: usize) -> Vec<u8> {
+    (0..len).map(|_| random.next() as u8).collect()
+}
+
+/// The key that the slices of one case come from: few or many kinds of bytes, runs of FF.
+fn base(random: &mut Xorshift) -> Vec<u8> {
+    let limit = if random.one_in(2) { 8 } else { 67 };
+    let len = random.below(limit);
+    match random.below(3) {
+        0 => random_bytes(random, len),
+        1 => vec![0xFF; len],
+        _ => (0..len).map(|_| BYTES[random.below(4)]).collect(),
+    }
+}
+
+/// A key near the base: cut, one byte one more or less, or drawn out.
+fn near(random: &mut Xorshift, base: &[u8]) -> Vec<u8> {
+    let cut = random.below(base.len() + 1);
+    let mut key = base[..if random.one_in(2) { base.len() } else { cut }].to_vec();
+    if !key.is_empty() && random.one_in(3) {
+        let place = random.below(key.len());
+        let change = if random.one_in(4) { 0xFF } else { 1 };
+        key[place] = key[place].wrapping_add(change);
+        key.truncate(if random.one_in(2) { place + 1 } else { 67 });
+    }
+    if random.one_in(4) {
+        let more = random.below(4);
+        key.extend(random_bytes(random, more));
+    }
+    key
+}
+
+fn random_record(random: &mut Xorshift, base: &[u8]) -> Vec<u8> {
+    let mut key = near(random, base);
+    key.truncate(64);
+    let mut bytes = match random.below(16) {
+        0 | 1 => field_record(MAX),
+        2 => field_record(NO_EDGE),
+        3 => field_record(random.next() as u16),
+        _ => record(&key),
+    }
+    .to_vec();
+    match random.below(16) {
+        0 => bytes[random.below(66)] = random.next() as u8,
+        1 => bytes = random_bytes(random, 66),
+        2 => bytes.resize(random.below(141), 0),
+        _ => {}
+    }
+    bytes
+}
+
+fn slice(random: &mut Xorshift, kind: Kind, base: &[u8]) -> Vec<u8> {
+    match kind {
+        Kind::Key => near(random, base),
+        Kind::Record => random_record(random, base),
+        Kind::Entry => match random_record(random, base).try_into() {
+            Ok(record) => entry(&record).to_vec(),
+            Err(bytes) => bytes,
+        },
+    }
+}
+
+pub fn cases(group: &mut Group, call: &Call) {
+    let mut random = Xorshift::new(SEED);
+    for _ in 0..CASES {
+        let base = base(&mut random);
+        let slices: Vec<Vec<u8>> = call
+            .arguments
+            .iter()
+            .map(|(_, kind)| slice(&mut random, *kind, &base))
+            .collect();
+        let slices: Vec<&[u8]> = slices.iter().map(|slice| &slice[..]).collect();
+        let dest = if call.writes { random.below(141) } else { 0 };
+        group.compare(call, &slices, dest);
+    }
+}

@@ -1,0 +1,49 @@
+//! Groups for the calls on tables.
+mod by_hand;
+mod calls;
+mod faults;
+pub mod inputs;
+mod small;
+mod wrapper;
+
+use crate::{lengths, random, test, Test};
+
+pub fn tests() -> Vec<Test> {
+    let mut tests = vec![
+        test("table T by hand", by_hand::table_t),
+        test("slots of T by hand", by_hand::slots),
+        test("counts of pivots and edges by hand", by_hand::counts),
+        test("places by hand", by_hand::places),
+        test("order of causes by hand", by_hand::order_of_causes),
+        test("init_pivot_table: every length", small::first_table),
+        test("contains_range: small tables", small::ranges),
+        test("wf_edges: small tables", small::edges),
+        test("wf_edges: each edge of 63", faults::each_edge),
+        test("wrapper: tables", wrapper::tables),
+    ];
+    for call in calls::OF_PIVOTS {
+        let name = call.name;
+        tests.push(test(format!("{name}: counts"), |group| {
+            faults::counts(group, call)
+        }));
+        tests.push(test(format!("{name}: faults"), |group| {
+            faults::each_place(group, call)
+        }));
+        tests.push(test(format!("{name}: lengths"), |group| {
+            lengths::every_length(group, call)
+        }));
+        tests.push(test(format!("{name}: random"), |group| {
+            random::cases(group, call, 60_000)
+        }));
+    }
+    for call in calls::OF_KEY {
+        let name = call.name;
+        tests.push(test(format!("{name}: small tables"), |group| {
+            small::all_keys(group, call)
+        }));
+        tests.push(test(format!("{name}: large tables"), |group| {
+            small::large(group, call)
+        }));
+    }
+    tests
+}

@@ -1,0 +1,89 @@
+//! Tables with one fault: a wrong count, and at each place a wrong mark, a malformed record, the
+//! pivot before it again, or a pivot that falls.
+use super::calls::WF_EDGES;
+use super::inputs::{absent, rising, table, with};
+use crate::call::{Call, Kind};
+use crate::group::Group;
+use crate::inputs::{field_record, record, MAX, NO_EDGE};
+use crate::lengths::{choices, usual};
+
+/// These pivots with good and bad slices for the other arguments: keys inside and outside, and
+/// edges of each count near the right one.
+fn with_pivots(group: &mut Group, call: &Call, pivots: Vec<u8>) {
+    let edges = (pivots.len() / 66).saturating_sub(1);
+    let slices: Vec<Vec<Vec<u8>>> = call
+        .arguments
+        .iter()
+        .map(|(_, kind)| match kind {
+            Kind::Pivots => vec![pivots.clone()],
+            Kind::Edges => {
+                let counts = edges.saturating_sub(1)..=edges + 2;
+                let wrong = field_record(MAX).repeat(edges);
+                counts.map(absent).chain([wrong]).collect()
+            }
+            Kind::Key => [usual(Kind::Key), vec![vec![0x41, 0x01]]].concat(),
+            other => usual(*other),
+        })
+        .collect();
+    choices(group, call, &slices, &[0]);
+}
+
+/// From 0 to 66 pivots, whole, one byte short and one byte more.
+pub fn counts(group: &mut Group, call: &Call) {
+    for count in 0..=66 {
+        let whole = rising(count);
+        with_pivots(group, call, [&whole[..], &[0]].concat());
+        if let Some((_, short)) = whole.split_last() {
+            with_pivots(group, call, short.to_vec());
+        }
+        with_pivots(group, call, whole);
+    }
+}
+
+pub fn each_place(group: &mut Group, call: &Call) {
+    for count in [2, 3, 64] {
+        let good = rising(count);
+        for place in 0..count {
+            let before = &good[place.saturating_sub(1) * 66..][..66];
+            let longer = [&[0x41, 3 * place as u8][..], &[0xFF; 62]].concat();
+            let others = [
+                field_record(MAX),
+                field_record(NO_EDGE),
+                field_record(65),
+                spoiled(&good[place * 66..][..66]),
+                before.try_into().expect("a record"),
+                record(&[]),
+                record(&longer),
+            ];
+            for other in others {
+                with_pivots(group, call, with(&good, place, &other));
+            }
+        }
+    }
+}
+
+/// The record with a byte after its key.
+fn spoiled(good: &[u8]) -> [u8; 66] {
+    let mut bad: [u8; 66] = good.try_into().expect("a record");
+    bad[65] = 1;
+    bad
+}
+
+/// Every edge of 63 in turn, over pivots that share a prefix and over pivots that share none.
+pub fn each_edge(group: &mut Group) {
+    let apart: Vec<[u8; 1]> = (0..64).map(|i| [4 * i]).collect();
+    let apart: Vec<&[u8]> = apart.iter().map(|key| &key[..]).collect();
+    for pivots in [rising(64), table(&apart)] {
+        for place in 0..63 {
+            let edges = [
+                record(&[]),
+                record(&[0x43; 64]),
+                field_record(MAX),
+                field_record(65),
+            ];
+            for edge in edges {
+                group.ask(&WF_EDGES, &[&pivots, &with(&absent(63), place, &edge)]);
+            }
+        }
+    }
+}

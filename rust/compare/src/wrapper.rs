@@ -1,0 +1,99 @@
+//! The safe wrapper against the reference: it must hand on what the archive answers.
+use crate::call::Hex;
+use crate::group::Group;
+use crate::inputs::{counted, entry, field_record, record, small_keys, MAX, NO_EDGE};
+use std::fmt::Debug;
+
+fn same<T: PartialEq + Debug>(
+    group: &mut Group,
+    call: &str,
+    slices: &[&[u8]],
+    wrapper: Result<T, joistdenim::Refusal>,
+    reference: Result<T, reference::Refusal>,
+) {
+    let wrapper = wrapper.map_err(|refusal| refusal.number());
+    let reference = reference.map_err(|refusal| refusal.number());
+    group.check(wrapper == reference, || {
+        let slices: Vec<String> = slices.iter().map(|s| Hex(s).to_string()).collect();
+        let case = slices.join(", ");
+        format!("{call}({case}): wrapper {wrapper:?}; reference {reference:?}")
+    });
+}
+
+pub fn keys_and_records(group: &mut Group) {
+    let keys = small_keys(3);
+    let mut slices: Vec<Vec<u8>> = keys.iter().map(|key| record(key).to_vec()).collect();
+    slices.extend([MAX, NO_EDGE, 65].map(|field| field_record(field).to_vec()));
+    slices.extend([0, 65, 67, 70].map(counted));
+    for a in &slices {
+        let key = joistdenim::pivot_key(a);
+        same(group, "pivot_key", &[a], key, reference::pivot_key(a));
+        for b in &slices {
+            let order = joistdenim::compare(a, b);
+            same(group, "compare", &[a, b], order, reference::compare(a, b));
+        }
+        for left in &keys {
+            let prefix = joistdenim::pivot_lcp(left, a);
+            same(
+                group,
+                "pivot_lcp",
+                &[left, a],
+                prefix,
+                reference::pivot_lcp(left, a),
+            );
+        }
+        let Ok(record) = a[..].try_into() else {
+            continue;
+        };
+        for len in [70, 69, 66] {
+            let entry = &entry(record)[..len];
+            let key = joistdenim::entry_key(entry);
+            same(
+                group,
+                "entry_key",
+                &[entry],
+                key,
+                reference::entry_key(entry),
+            );
+        }
+    }
+}
+
+/// The result of a call, and what it leaves in a destination of this length and around it.
+fn into<R>(len: usize, call: impl Fn(&mut [u8]) -> R) -> (R, Vec<u8>) {
+    let mut bytes = vec![7; len + 16];
+    (call(&mut bytes[8..8 + len]), bytes)
+}
+
+pub fn destinations(group: &mut Group) {
+    let keys = small_keys(3);
+    for key in &keys {
+        for old in &keys {
+            for (new, dest) in [(0, 4), (1, 3), (62, 64), (62, 63), (65, 64)] {
+                let new = &counted(new);
+                let (got, left) = into(dest, |d| joistdenim::change_prefix(key, old, new, d));
+                let (wanted, right) = into(dest, |d| reference::change_prefix(key, old, new, d));
+                same(group, "change_prefix", &[key, old, new], got, wanted);
+                same(
+                    group,
+                    "change_prefix",
+                    &[key, old, new],
+                    Ok(left),
+                    Ok(right),
+                );
+            }
+        }
+        for dest in [65, 66, 67] {
+            let (got, left) = into(dest, |d| joistdenim::shortest_uncommon_prefix(key, d));
+            let (wanted, right) = into(dest, |d| reference::shortest_uncommon_prefix(key, d));
+            same(group, "shortest_uncommon_prefix", &[key], got, wanted);
+            same(
+                group,
+                "shortest_uncommon_prefix",
+                &[key],
+                Ok(left),
+                Ok(right),
+            );
+        }
+    }
+}

@@ -1,0 +1,46 @@
+//! The archive's functions as C sees them; `include/joistdenim.h` says what each does.
+//!
+//! Each returns 0 or a refusal's number and answers through its last pointer. The pointers must
+//! not be null and must be good for their lengths, and what is written overlaps nothing else.
+
+extern "C" {
+    pub fn jd_compare(
+        a: *const u8,
+        a_len: usize,
+        b: *const u8,
+        b_len: usize,
+        order: *mut i64,
+    ) -> u32;
+
+    pub fn jd_pivot_key(record: *const u8, record_len: usize, length: *mut u64) -> u32;
+
+    pub fn jd_entry_key(entry: *const u8, entry_len: usize, length: *mut u64) -> u32;
+
+    pub fn jd_change_prefix(
+        key: *const u8,
+        key_len: usize,
+        old_prefix: *const u8,
+        old_prefix_len: usize,
+        new_prefix: *const u8,
+        new_prefix_len: usize,
+        dest: *mut u8,
+        dest_len: usize,
+        length: *mut u64,
+    ) -> u32;
+
+    pub fn jd_pivot_lcp(
+        left: *const u8,
+        left_len: usize,
+        right: *const u8,
+        right_len: usize,
+        length: *mut u64,
+    ) -> u32;
+
+    pub fn jd_shortest_uncommon_prefix(
+        prefix: *const u8,
+        prefix_len: usize,
+        dest: *mut u8,
+        dest_len: usize,
+        written: *mut u64,
+    ) -> u32;
+}

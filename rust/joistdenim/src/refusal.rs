@@ -1,0 +1,78 @@
+//! Why a call refuses.
+use std::fmt;
+
+/// A refusal. Its number is what the C function returns.
+#[derive(Clone, Copy, Debug, PartialEq, Eq, Hash)]
+#[non_exhaustive]
+pub enum Refusal {
+    Shape = 1,
+    Malformed = 2,
+    Unsorted = 3,
+    EmptyPrefix = 4,
+    OutOfRange = 5,
+    NoSuchSlot = 6,
+    NotPrefix = 7,
+    TooLong = 8,
+    NotBelow = 9,
+    NoRoom = 10,
+}
+
+impl Refusal {
+    pub fn number(self) -> u32 {
+        self as u32
+    }
+
+    /// What a C function returned: 0 is accepted.
+    pub(crate) fn check(number: u32) -> Result<(), Refusal> {
+        Err(match number {
+            0 => return Ok(()),
+            1 => Refusal::Shape,
+            2 => Refusal::Malformed,
+            3 => Refusal::Unsorted,
+            4 => Refusal::EmptyPrefix,
+            5 => Refusal::OutOfRange,
+            6 => Refusal::NoSuchSlot,
+            7 => Refusal::NotPrefix,
+            8 => Refusal::TooLong,
+            9 => Refusal::NotBelow,
+            10 => Refusal::NoRoom,
+            other => unreachable!("the archive has no refusal {other}"),
+        })
+    }
+
+    fn text(self) -> &'static str {
+        match self {
+            Refusal::Shape => "a slice isn't the records it should be",
+            Refusal::Malformed => "a malformed record, a wrong mark, or a key over 64 bytes",
+            Refusal::Unsorted => "pivots don't rise strictly",
+            Refusal::EmptyPrefix => "an edge where the range's prefix is empty",
+            Refusal::OutOfRange => "the key is outside the table's range",
+            Refusal::NoSuchSlot => "no such slot, or no key at that place",
+            Refusal::NotPrefix => "the old prefix doesn't begin the key",
+            Refusal::TooLong => "a produced key passes 64 bytes",
+            Refusal::NotBelow => "left isn't below right",
+            Refusal::NoRoom => "a destination is too short",
+        }
+    }
+}
+
+impl fmt::Display for Refusal {
+    fn fmt(&self, f: &mut fmt::Formatter<'_>) -> fmt::Result {
+        write!(f, "refusal {}: {}", self.number(), self.text())
+    }
+}
+
+impl std::error::Error for Refusal {}
+
+#[cfg(test)]
+mod tests {
+    use super::Refusal;
+
+    #[test]
+    fn each_number_is_its_refusal() {
+        assert_eq!(Refusal::check(0), Ok(()));
+        for number in 1..=10 {
+            assert_eq!(Refusal::check(number).unwrap_err().number(), number);
+        }
+    }
+}

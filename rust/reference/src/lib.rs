@@ -1,0 +1,28 @@
+//! A separate implementation of joistdenim's calls, in plain Rust, written from document 01's
+//! words. The archive is compared with it; it shares no code with the archive or its wrapper.
+//!
+//! A call reads its bytes into `Element` and `Edge` values first, and a `?` for each cause stands
+//! in the order of the refusals' numbers: cause 1 of every argument, then cause 2 of every
+//! argument, and so on.
+#![forbid(unsafe_code)]
+
+mod keys;
+mod range_prefix;
+mod record;
+mod refusal;
+mod table;
+mod table_calls;
+#[cfg(test)]
+mod table_tests;
+mod upper_bound;
+
+pub use keys::{change_prefix, compare, entry_key, pivot_key};
+pub use range_prefix::{pivot_lcp, range_prefix};
+pub use record::{Edge, Element, ENTRY_SIZE, MAX_LEN, RECORD_SIZE};
+pub use refusal::Refusal;
+pub use table::{MAX_PIVOTS, MIN_PIVOTS};
+pub use table_calls::{
+    bounded_key, contains_all_keys, contains_range, cutoff_for_left, cutoff_for_right, get_key,
+    init_pivot_table, pivot_insertable, route, valid_left_cut_off_key, wf_edges, wf_pivots,
+};
+pub use upper_bound::{shortest_uncommon_prefix, upper_bound};

@@ -1,0 +1,105 @@
+//! Records of 66 bytes: a length field of two bytes, high byte first, then 64 bytes, zero after
+//! the key's end.
+use crate::refusal::{refuse_if, Refusal};
+
+pub const MAX_LEN: usize = 64;
+pub const RECORD_SIZE: usize = 66;
+pub const ENTRY_SIZE: usize = 70;
+const NO_EDGE: u16 = 65_534;
+const MAX: u16 = 65_535;
+
+pub(crate) type Record = [u8; RECORD_SIZE];
+
+/// A key or max. The derived order is document 01's: slices by the first differing byte, a
+/// proper prefix first, and max, the later variant, above every key.
+#[derive(Clone, Copy, Debug, PartialEq, Eq, PartialOrd, Ord)]
+pub enum Element<'a> {
+    Key(&'a [u8]),
+    Max,
+}
+
+/// What a slot carries in place of its range's prefix, if anything.
+#[derive(Clone, Copy, Debug, PartialEq, Eq)]
+pub enum Edge<'a> {
+    To(&'a [u8]),
+    Absent,
+}
+
+/// The three good readings of a record.
+enum Reading<'a> {
+    Key(&'a [u8]),
+    NoEdge,
+    Max,
+}
+
+/// A slice that must be one record: cause 1.
+pub(crate) fn one_record(bytes: &[u8]) -> Result<&Record, Refusal> {
+    bytes.try_into().map_err(|_| Refusal::Shape)
+}
+
+/// A key or prefix argument: cause 2.
+pub(crate) fn short(bytes: &[u8]) -> Result<&[u8], Refusal> {
+    refuse_if(bytes.len() > MAX_LEN, Refusal::Malformed)?;
+    Ok(bytes)
+}
+
+/// A malformed record is cause 2.
+fn read(record: &Record) -> Result<Reading<'_>, Refusal> {
+    let (field, bytes) = record.split_at(2);
+    let field = u16::from_be_bytes([field[0], field[1]]);
+    let (reading, zeros) = match field {
+        NO_EDGE => (Reading::NoEdge, bytes),
+        MAX => (Reading::Max, bytes),
+        _ if usize::from(field) <= MAX_LEN => {
+            let (key, zeros) = bytes.split_at(usize::from(field));
+            (Reading::Key(key), zeros)
+        }
+        _ => return Err(Refusal::Malformed),
+    };
+    refuse_if(zeros.iter().any(|&b| b != 0), Refusal::Malformed)?;
+    Ok(reading)
+}
+
+/// A record where only a key may stand.
+pub(crate) fn key(record: &Record) -> Result<&[u8], Refusal> {
+    match read(record)? {
+        Reading::Key(key) => Ok(key),
+        Reading::NoEdge | Reading::Max => Err(Refusal::Malformed),
+    }
+}
+
+/// A record where a key or max may stand.
+pub(crate) fn element(record: &Record) -> Result<Element<'_>, Refusal> {
+    match read(record)? {
+        Reading::Key(key) => Ok(Element::Key(key)),
+        Reading::Max => Ok(Element::Max),
+        Reading::NoEdge => Err(Refusal::Malformed),
+    }
+}
+
+/// A record where a key or "no edge" may stand.
+pub(crate) fn edge(record: &Record) -> Result<Edge<'_>, Refusal> {
+    match read(record)? {
+        Reading::Key(key) => Ok(Edge::To(key)),
+        Reading::NoEdge => Ok(Edge::Absent),
+        Reading::Max => Err(Refusal::Malformed),
+    }
+}
+
+impl Element<'_> {
+    /// Writes the element's record at the head of `dest`: cause 10.
+    pub(crate) fn put(&self, dest: &mut [u8]) -> Result<(), Refusal> {
+        let record = dest.get_mut(..RECORD_SIZE).ok_or(Refusal::NoRoom)?;
+        let (field, bytes) = record.split_at_mut(2);
+        bytes.fill(0);
+        let length = match self {
+            Element::Key(key) => {
+                bytes[..key.len()].copy_from_slice(key);
+                key.len() as u16
+            }
+            Element::Max => MAX,
+        };
+        field.copy_from_slice(&length.to_be_bytes());
+        Ok(())
+    }
+}

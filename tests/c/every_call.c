@@ -1,0 +1,265 @@
+/*
+ * Each function of joistdenim.h from C: a normal case, each of its refusals, and which refusal
+ * comes first where two apply. Around every destination stand bytes that must not change.
+ */
+#include "joistdenim.h"
+
+#include <inttypes.h>
+#include <stdio.h>
+#include <string.h>
+
+typedef struct {
+    const uint8_t *bytes;
+    size_t length;
+} slice;
+
+#define BYTES(text) ((slice){(const uint8_t *)(text), sizeof(text) - 1})
+#define GUARD 16
+#define ROOM 160
+#define BEFORE 0xA7
+#define NUMBER_BEFORE 0x5A5AC3C396966969
+
+static unsigned passed, failed;
+
+static void count(int holds, const char *name)
+{
+    if (holds) {
+        passed++;
+    } else {
+        failed++;
+        printf("FAILED %s\n", name);
+    }
+}
+
+/* A result: the number returned and the number behind the pointer, which a refusal leaves. */
+static void result(const char *name, uint32_t got, uint64_t number, uint32_t wanted,
+                   uint64_t answer)
+{
+    uint64_t left = wanted == 0 ? answer : NUMBER_BEFORE;
+    count(got == wanted && number == left, name);
+    if (got != wanted || number != left)
+        printf("  returned %" PRIu32 ", number %" PRId64 "\n", got, (int64_t)number);
+}
+
+/* A destination with guards, all of it filled before a call. */
+static uint8_t room[GUARD + ROOM + GUARD];
+
+static uint8_t *fresh(void)
+{
+    memset(room, BEFORE, sizeof room);
+    return room + GUARD;
+}
+
+/* The destination begins with what was written, and no other byte has changed. */
+static void left(const char *name, slice written)
+{
+    size_t changed = 0;
+    for (size_t i = 0; i < sizeof room; i++) {
+        int inside = i >= GUARD && i < GUARD + written.length;
+        changed += room[i] != (inside ? written.bytes[i - GUARD] : BEFORE);
+    }
+    count(changed == 0, name);
+}
+
+/* A record with this length field and these bytes. The last 16 made stand side by side. */
+static slice record(unsigned field, slice bytes)
+{
+    static uint8_t records[16][JD_RECORD_SIZE];
+    static unsigned next;
+    uint8_t *r = records[next++ % 16];
+    memset(r, 0, JD_RECORD_SIZE);
+    r[0] = (uint8_t)(field >> 8);
+    r[1] = (uint8_t)field;
+    memcpy(r + 2, bytes.bytes, bytes.length);
+    return (slice){r, JD_RECORD_SIZE};
+}
+
+static slice key(slice bytes)
+{
+    return record((unsigned)bytes.length, bytes);
+}
+
+/* The first bytes of a slice. */
+static slice head(slice s, size_t length)
+{
+    return (slice){s.bytes, length};
+}
+
+static const uint8_t long_bytes[65] = "0123456789abcdef0123456789abcdef"
+                                      "0123456789abcdef0123456789abcdef";
+static const slice full = {long_bytes, 64};
+static const slice over = {long_bytes, 65};
+static const slice none = {long_bytes, 0};
+
+/* ---- compare */
+
+static void compare(const char *name, slice a, slice b, uint32_t wanted, int64_t answer)
+{
+    int64_t order = NUMBER_BEFORE;
+    uint32_t got = jd_compare(a.bytes, a.length, b.bytes, b.length, &order);
+    result(name, got, (uint64_t)order, wanted, (uint64_t)answer);
+}
+
+static void compare_checks(void)
+{
+    slice a = key(BYTES("A0")), b = key(BYTES("B"));
+    slice max = record(JD_MAX, none), no_edge = record(JD_NO_EDGE, none);
+    compare("compare: below", a, b, 0, -1);
+    compare("compare: above", b, a, 0, 1);
+    compare("compare: same", a, a, 0, 0);
+    compare("compare: max above a key", max, a, 0, 1);
+    compare("compare: max equals max", max, max, 0, 0);
+    compare("compare: a prefix comes first", key(BYTES("A")), a, 0, -1);
+    compare("compare: 1, first too short", head(a, 65), a, JD_SHAPE, 0);
+    compare("compare: 1, second too short", a, head(a, 65), JD_SHAPE, 0);
+    compare("compare: 1, empty", none, a, JD_SHAPE, 0);
+    compare("compare: 2, no edge", a, no_edge, JD_MALFORMED, 0);
+    compare("compare: 2, field 65", record(65, none), a, JD_MALFORMED, 0);
+    compare("compare: 2, byte after the key", record(1, BYTES("AB")), a, JD_MALFORMED, 0);
+    compare("compare: 2, byte after max", a, record(JD_MAX, BYTES("A")), JD_MALFORMED, 0);
+    compare("compare: 1 before 2", no_edge, head(no_edge, 65), JD_SHAPE, 0);
+    compare("compare: 1 before 2, other way", head(no_edge, 65), no_edge, JD_SHAPE, 0);
+}
+
+/* ---- the key of a record or an entry */
+
+typedef uint32_t key_call(const uint8_t *bytes, size_t length, uint64_t *answer);
+
+static void key_of(const char *name, key_call *call, slice s, uint32_t wanted, uint64_t answer)
+{
+    uint64_t number = NUMBER_BEFORE;
+    uint32_t got = call(s.bytes, s.length, &number);
+    result(name, got, number, wanted, answer);
+}
+
+static void pivot_key_checks(void)
+{
+    slice wrong = record(65, none);
+    key_of("pivot_key: two bytes", jd_pivot_key, key(BYTES("A0")), 0, 2);
+    key_of("pivot_key: empty key", jd_pivot_key, key(none), 0, 0);
+    key_of("pivot_key: 64 bytes", jd_pivot_key, key(full), 0, 64);
+    key_of("pivot_key: 1, empty", jd_pivot_key, none, JD_SHAPE, 0);
+    key_of("pivot_key: 2, field 65", jd_pivot_key, wrong, JD_MALFORMED, 0);
+    key_of("pivot_key: 2, max", jd_pivot_key, record(JD_MAX, none), JD_MALFORMED, 0);
+    key_of("pivot_key: 2, no edge", jd_pivot_key, record(JD_NO_EDGE, none), JD_MALFORMED, 0);
+    key_of("pivot_key: 1 before 2", jd_pivot_key, head(wrong, 65), JD_SHAPE, 0);
+}
+
+/* An entry: a record and a number of four bytes. */
+static slice entry(slice r)
+{
+    static uint8_t bytes[JD_ENTRY_SIZE];
+    memset(bytes, 0x91, sizeof bytes);
+    memcpy(bytes, r.bytes, r.length);
+    return (slice){bytes, sizeof bytes};
+}
+
+static void entry_key_checks(void)
+{
+    slice e = entry(key(BYTES("A0")));
+    key_of("entry_key: two bytes", jd_entry_key, e, 0, 2);
+    key_of("entry_key: 1, a record alone", jd_entry_key, head(e, 66), JD_SHAPE, 0);
+    key_of("entry_key: 64 bytes", jd_entry_key, entry(key(full)), 0, 64);
+    e = entry(record(65, none));
+    key_of("entry_key: 2, field 65", jd_entry_key, e, JD_MALFORMED, 0);
+    key_of("entry_key: 1 before 2", jd_entry_key, head(e, 69), JD_SHAPE, 0);
+    e = entry(record(JD_MAX, none));
+    key_of("entry_key: 2, max", jd_entry_key, e, JD_MALFORMED, 0);
+    e = entry(record(JD_NO_EDGE, none));
+    key_of("entry_key: 2, no edge", jd_entry_key, e, JD_MALFORMED, 0);
+}
+
+/* ---- change of prefix */
+
+static void change(const char *name, slice k, slice old, slice new, size_t dest,
+                   uint32_t wanted, slice written)
+{
+    uint64_t number = NUMBER_BEFORE;
+    uint8_t *to = fresh();
+    uint32_t got = jd_change_prefix(k.bytes, k.length, old.bytes, old.length, new.bytes,
+                                    new.length, to, dest, &number);
+    result(name, got, number, wanted, written.length);
+    left(name, written);
+}
+
+static void change_prefix_checks(void)
+{
+    slice k = BYTES("A07"), a = BYTES("A"), b = BYTES("B"), c = BYTES("C");
+    change("change_prefix: A to C", k, a, c, 3, 0, BYTES("C07"));
+    change("change_prefix: room to spare", k, a, c, ROOM, 0, BYTES("C07"));
+    change("change_prefix: to a longer one", k, a, BYTES("CDE"), 5, 0, BYTES("CDE07"));
+    change("change_prefix: to nothing", k, BYTES("A0"), none, 1, 0, BYTES("7"));
+    change("change_prefix: nothing is left", a, a, none, 0, 0, none);
+    change("change_prefix: 64 bytes produced", full, none, none, 64, 0, full);
+    change("change_prefix: 2, key", over, none, none, ROOM, JD_MALFORMED, none);
+    change("change_prefix: 2, old", k, over, c, ROOM, JD_MALFORMED, none);
+    change("change_prefix: 2, new", k, a, over, ROOM, JD_MALFORMED, none);
+    change("change_prefix: 7", k, b, c, ROOM, JD_NOT_PREFIX, none);
+    change("change_prefix: 7, old is longer", a, k, c, ROOM, JD_NOT_PREFIX, none);
+    change("change_prefix: 8", k, a, head(full, 63), ROOM, JD_TOO_LONG, none);
+    change("change_prefix: 10", k, a, c, 2, JD_NO_ROOM, none);
+    change("change_prefix: 2 before 7", k, b, over, ROOM, JD_MALFORMED, none);
+    change("change_prefix: 7 before 8", k, b, full, ROOM, JD_NOT_PREFIX, none);
+    change("change_prefix: 8 before 10", k, a, full, 0, JD_TOO_LONG, none);
+    change("change_prefix: 7 before 10", k, b, c, 0, JD_NOT_PREFIX, none);
+}
+
+/* ---- the prefix of a range */
+
+static void lcp(const char *name, slice l, slice r, uint32_t wanted, uint64_t answer)
+{
+    uint64_t number = NUMBER_BEFORE;
+    uint32_t got = jd_pivot_lcp(l.bytes, l.length, r.bytes, r.length, &number);
+    result(name, got, number, wanted, answer);
+}
+
+static void pivot_lcp_checks(void)
+{
+    slice max = record(JD_MAX, none), b = key(BYTES("B"));
+    lcp("pivot_lcp: common run", BYTES("A0"), key(BYTES("A5")), 0, 1);
+    lcp("pivot_lcp: up to the next byte", BYTES("A5"), b, 0, 1);
+    lcp("pivot_lcp: with a run of FF", BYTES("A\xff\xff\x07"), b, 0, 3);
+    lcp("pivot_lcp: right has a second byte", BYTES("A\xff"), key(BYTES("B\0")), 0, 0);
+    lcp("pivot_lcp: up to max", BYTES("\xff\xff\x10"), max, 0, 2);
+    lcp("pivot_lcp: from the empty key to max", none, max, 0, 0);
+    lcp("pivot_lcp: 1", BYTES("A"), head(max, 65), JD_SHAPE, 0);
+    lcp("pivot_lcp: 2, left", over, max, JD_MALFORMED, 0);
+    lcp("pivot_lcp: 2, right", BYTES("A"), record(65, none), JD_MALFORMED, 0);
+    lcp("pivot_lcp: 2, no edge", BYTES("A"), record(JD_NO_EDGE, none), JD_MALFORMED, 0);
+    lcp("pivot_lcp: 1 before 2", over, head(max, 65), JD_SHAPE, 0);
+}
+
+/* ---- the upper bound of a prefix */
+
+static void bound(const char *name, slice p, size_t dest, uint32_t wanted, slice written)
+{
+    uint64_t number = NUMBER_BEFORE;
+    uint8_t *to = fresh();
+    uint32_t got = jd_shortest_uncommon_prefix(p.bytes, p.length, to, dest, &number);
+    result(name, got, number, wanted, 1);
+    left(name, written);
+}
+
+static void shortest_uncommon_prefix_checks(void)
+{
+    bound("bound: last byte raised", BYTES("A0"), 66, 0, key(BYTES("A1")));
+    bound("bound: FF dropped", BYTES("A\xff\xff"), ROOM, 0, key(BYTES("B")));
+    bound("bound: of FF is max", BYTES("\xff\xff"), 66, 0, record(JD_MAX, none));
+    bound("bound: of nothing is max", none, 67, 0, record(JD_MAX, none));
+    bound("bound: 2", over, 66, JD_MALFORMED, none);
+    bound("bound: 10", BYTES("A"), 65, JD_NO_ROOM, none);
+    bound("bound: 10, empty", BYTES("A"), 0, JD_NO_ROOM, none);
+    bound("bound: 2 before 10", over, 0, JD_MALFORMED, none);
+}
+
+int main(void)
+{
+    compare_checks();
+    pivot_key_checks();
+    entry_key_checks();
+    change_prefix_checks();
+    pivot_lcp_checks();
+    shortest_uncommon_prefix_checks();
+    printf("%u passed, %u failed\n", passed, failed);
+    return failed != 0;
+}
