@@ -24,6 +24,8 @@
 #define JD_MAX_LEN 64
 #define JD_RECORD_SIZE 66
 #define JD_ENTRY_SIZE 70
+#define JD_MIN_PIVOTS 2
+#define JD_MAX_PIVOTS 64
 
 /* The two marks in a record's length field. */
 #define JD_NO_EDGE 65534
@@ -73,6 +75,66 @@ uint32_t jd_pivot_lcp(const uint8_t *left, size_t left_len,
  * rest dropped, or max where there is none. Answers 1. Refuses JD_MALFORMED, JD_NO_ROOM. */
 uint32_t jd_shortest_uncommon_prefix(const uint8_t *prefix, size_t prefix_len,
                                      uint8_t *dest, size_t dest_len, uint64_t *written);
+
+/* ---- Tables. Pivots are 2 to JD_MAX_PIVOTS records: keys that rise strictly, the last may be
+ * max. Edges are one record fewer: a key or JD_NO_EDGE. "Yes" is 1 and "no" 0. */
+
+/* Whether the pivots are well formed: 0, which is yes, or the refusal; there is nothing more to
+ * answer. Refuses JD_SHAPE, JD_MALFORMED, JD_UNSORTED. */
+uint32_t jd_wf_pivots(const uint8_t *pivots, size_t pivots_len);
+
+/* Whether pivots and edges are well formed, told in the same way.
+ * Refuses JD_SHAPE, JD_MALFORMED, JD_UNSORTED, JD_EMPTY_PREFIX. */
+uint32_t jd_wf_edges(const uint8_t *pivots, size_t pivots_len,
+                     const uint8_t *edges, size_t edges_len);
+
+/* Whether the table goes from the empty key to max.
+ * Refuses JD_SHAPE, JD_MALFORMED, JD_UNSORTED. */
+uint32_t jd_contains_all_keys(const uint8_t *pivots, size_t pivots_len, uint64_t *yes);
+
+/* Whether the table's range holds all from a left key up to a right element.
+ * Refuses JD_SHAPE, JD_MALFORMED, JD_UNSORTED, JD_NOT_BELOW. */
+uint32_t jd_contains_range(const uint8_t *pivots, size_t pivots_len,
+                           const uint8_t *left, size_t left_len,
+                           const uint8_t *right, size_t right_len, uint64_t *yes);
+
+/* Whether the key is not below the first pivot and below the last.
+ * Refuses JD_SHAPE, JD_MALFORMED, JD_UNSORTED. */
+uint32_t jd_bounded_key(const uint8_t *pivots, size_t pivots_len,
+                        const uint8_t *key, size_t key_len, uint64_t *yes);
+
+/* Whether the key is above the first pivot and not above the last.
+ * Refuses JD_SHAPE, JD_MALFORMED, JD_UNSORTED. */
+uint32_t jd_valid_left_cut_off_key(const uint8_t *pivots, size_t pivots_len,
+                                   const uint8_t *key, size_t key_len, uint64_t *yes);
+
+/* Whether the pivots would still rise with the key put in at this place; past the pivots' count
+ * it is no. Refuses JD_SHAPE, JD_MALFORMED, JD_UNSORTED. */
+uint32_t jd_pivot_insertable(const uint8_t *pivots, size_t pivots_len, uint64_t place,
+                             const uint8_t *key, size_t key_len, uint64_t *yes);
+
+/* The length of the key at this place; it begins at byte 2 of the place's record.
+ * Refuses JD_SHAPE, JD_MALFORMED, JD_UNSORTED, JD_NO_SUCH_SLOT (max stands there, too). */
+uint32_t jd_get_key(const uint8_t *pivots, size_t pivots_len, uint64_t place,
+                    uint64_t *length);
+
+/* Writes the first table, the empty key and max; answers 2. Refuses JD_NO_ROOM. */
+uint32_t jd_init_pivot_table(uint8_t *dest, size_t dest_len, uint64_t *written);
+
+/* The slot of the key: the last pivot not above it.
+ * Refuses JD_SHAPE, JD_MALFORMED, JD_UNSORTED, JD_OUT_OF_RANGE. */
+uint32_t jd_route(const uint8_t *pivots, size_t pivots_len,
+                  const uint8_t *key, size_t key_len, uint64_t *slot);
+
+/* The slot where a left cut at the key ends: the last pivot below it.
+ * Refuses JD_SHAPE, JD_MALFORMED, JD_UNSORTED, JD_OUT_OF_RANGE. */
+uint32_t jd_cutoff_for_left(const uint8_t *pivots, size_t pivots_len,
+                            const uint8_t *key, size_t key_len, uint64_t *slot);
+
+/* The slot where a right cut at the key begins: the key's.
+ * Refuses JD_SHAPE, JD_MALFORMED, JD_UNSORTED, JD_OUT_OF_RANGE. */
+uint32_t jd_cutoff_for_right(const uint8_t *pivots, size_t pivots_len,
+                             const uint8_t *key, size_t key_len, uint64_t *slot);
 
 #ifdef __cplusplus
 }

@@ -1,95 +1,8 @@
 /*
- * Each function of joistdenim.h from C: a normal case, each of its refusals, and which refusal
+ * Each function on single keys from C: a normal case, each of its refusals, and which refusal
  * comes first where two apply. Around every destination stand bytes that must not change.
  */
-#include "joistdenim.h"
-
-#include <inttypes.h>
-#include <stdio.h>
-#include <string.h>
-
-typedef struct {
-    const uint8_t *bytes;
-    size_t length;
-} slice;
-
-#define BYTES(text) ((slice){(const uint8_t *)(text), sizeof(text) - 1})
-#define GUARD 16
-#define ROOM 160
-#define BEFORE 0xA7
-#define NUMBER_BEFORE 0x5A5AC3C396966969
-
-static unsigned passed, failed;
-
-static void count(int holds, const char *name)
-{
-    if (holds) {
-        passed++;
-    } else {
-        failed++;
-        printf("FAILED %s\n", name);
-    }
-}
-
-/* A result: the number returned and the number behind the pointer, which a refusal leaves. */
-static void result(const char *name, uint32_t got, uint64_t number, uint32_t wanted,
-                   uint64_t answer)
-{
-    uint64_t left = wanted == 0 ? answer : NUMBER_BEFORE;
-    count(got == wanted && number == left, name);
-    if (got != wanted || number != left)
-        printf("  returned %" PRIu32 ", number %" PRId64 "\n", got, (int64_t)number);
-}
-
-/* A destination with guards, all of it filled before a call. */
-static uint8_t room[GUARD + ROOM + GUARD];
-
-static uint8_t *fresh(void)
-{
-    memset(room, BEFORE, sizeof room);
-    return room + GUARD;
-}
-
-/* The destination begins with what was written, and no other byte has changed. */
-static void left(const char *name, slice written)
-{
-    size_t changed = 0;
-    for (size_t i = 0; i < sizeof room; i++) {
-        int inside = i >= GUARD && i < GUARD + written.length;
-        changed += room[i] != (inside ? written.bytes[i - GUARD] : BEFORE);
-    }
-    count(changed == 0, name);
-}
-
-/* A record with this length field and these bytes. The last 16 made stand side by side. */
-static slice record(unsigned field, slice bytes)
-{
-    static uint8_t records[16][JD_RECORD_SIZE];
-    static unsigned next;
-    uint8_t *r = records[next++ % 16];
-    memset(r, 0, JD_RECORD_SIZE);
-    r[0] = (uint8_t)(field >> 8);
-    r[1] = (uint8_t)field;
-    memcpy(r + 2, bytes.bytes, bytes.length);
-    return (slice){r, JD_RECORD_SIZE};
-}
-
-static slice key(slice bytes)
-{
-    return record((unsigned)bytes.length, bytes);
-}
-
-/* The first bytes of a slice. */
-static slice head(slice s, size_t length)
-{
-    return (slice){s.bytes, length};
-}
-
-static const uint8_t long_bytes[65] = "0123456789abcdef0123456789abcdef"
-                                      "0123456789abcdef0123456789abcdef";
-static const slice full = {long_bytes, 64};
-static const slice over = {long_bytes, 65};
-static const slice none = {long_bytes, 0};
+#include "check.h"
 
 /* ---- compare */
 
@@ -260,6 +173,5 @@ int main(void)
     change_prefix_checks();
     pivot_lcp_checks();
     shortest_uncommon_prefix_checks();
-    printf("%u passed, %u failed\n", passed, failed);
-    return failed != 0;
+    return report();
 }

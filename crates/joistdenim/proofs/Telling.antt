@@ -10,7 +10,11 @@ use Rattle.model.specs.declared.Answer.{Answer}
 use Rattle.model.specs.declared.Answer.the-variants as answers
 use Rattle.model.specs.declared.Compared.{Compared}
 use Rattle.model.specs.declared.Compared.the-variants as compared
-use Rattle.model.specs.Refusals.{number, answerNumber, comparedNumber, told, toldOrder}
+use Rattle.model.specs.declared.Decided.{Decided}
+use Rattle.model.specs.declared.Decided.the-variants as decided
+use Rattle.model.specs.declared.Routed.{Routed}
+use Rattle.model.specs.declared.Routed.the-variants as routed
+use Rattle.model.specs.Refusals.{number, answerNumber, comparedNumber, told, toldOrder, decidedAnswer, slotAnswer}
 
 module _ (a : Answer) where
   pub value-number : (n : ℕ) → a ≡ answers.Value n → 0 ≡ answerNumber a
@@ -58,6 +62,37 @@ module _ (c : Compared) where
   pub order-passed : (b : Compared) (v w : ℤ) → w ≡ toldOrder c v → c ≡ b → w ≡ toldOrder b v
   order-passed b v w h e = rw e at h
 
+-- yes and no, and a slot
+pub decided-passed : (a : Answer) (d b : Decided) → a ≡ decidedAnswer d → d ≡ b → a ≡ decidedAnswer b
+decided-passed a d b h e = rw e at h
+
+pub slot-passed : (a : Answer) (s t : Routed) → a ≡ slotAnswer s → s ≡ t → a ≡ slotAnswer t
+slot-passed a s t h e = rw e at h
+
+module _ (d : Decided) where
+  pub said-yes : d ≡ decided.Yes → answers.Value 1 ≡ decidedAnswer d
+  unfolding decidedAnswer
+  said-yes e = rw e
+
+  pub said-no : d ≡ decided.No → answers.Value 0 ≡ decidedAnswer d
+  unfolding decidedAnswer
+  said-no e = rw e
+
+  pub said-refused : (r : Refusal) → d ≡ decided.Refused r → answers.Refused r ≡ decidedAnswer d
+  unfolding decidedAnswer
+  said-refused r e = rw e
+
+module _ (s : Routed) where
+  pub slot-told : (n : ℕ) → s ≡ routed.Slot n → answers.Value n ≡ slotAnswer s
+  unfolding slotAnswer
+  slot-told n e = rw e
+
+  pub slot-refused : (r : Refusal) → s ≡ routed.Refused r → answers.Refused r ≡ slotAnswer s
+  unfolding slotAnswer
+  slot-refused r e = rw e
+
+pub ruleset turning = (said-yes, said-no, said-refused, slot-told, slot-refused)
+
 pub ruleset telling = (value-number, value-told, refusal-number, refusal-told, order-number, order-told, order-refusal, order-kept)
 
-pub ruleset passing = (number-passed, told-passed, order-number-passed, order-passed)
+pub ruleset passing = (number-passed, told-passed, order-number-passed, order-passed, decided-passed, slot-passed)

@@ -1,94 +1,24 @@
 // The boundary for C and Rust. Each function answers what the call below it does: 0 or the refusal's number,
 // and the value through its last parameter, which a refusal leaves as it was. No public function has a `requires`.
-use model::Answer;
-use model::Compared;
-ghost use mathlib.Core.Path.{_≡_};
-ghost use Rattle.model.specs.Refusals.{answerNumber, comparedNumber, told, toldOrder};
-ghost use Rattle.model.specs.Calls.{compareAnswer, pivotKeyAnswer, entryKeyAnswer, changePrefixAnswer, changePrefixLeaves, pivotLcpAnswer, uncommonPrefixAnswer, uncommonPrefixLeaves};
+mod of_keys;
+mod of_tables;
+mod tell;
 
-// An answer, told by a number and through a pointer.
-fn tell(a: Answer, value: &mut u64) -> u32
-    ensures number { λ r. ⌜ r ≡ answerNumber a ⌝ }
-    ensures value { λ r. ⌜ now (value .exit) ≡ told a (now (value .entry)) ⌝ }
-{
-    match a {
-        Answer::Value(n) => {
-            *value = n as u64;
-            0
-        }
-        Answer::Refused(r) => refusals::refusal_number(r),
-    }
-}
-
-fn tell_order(c: Compared, order: &mut i64) -> u32
-    ensures number { λ r. ⌜ r ≡ comparedNumber c ⌝ }
-    ensures value { λ r. ⌜ now (order .exit) ≡ toldOrder c (now (order .entry)) ⌝ }
-{
-    match c {
-        Compared::Order(z) => {
-            *order = z;
-            0
-        }
-        Compared::Refused(r) => refusals::refusal_number(r),
-    }
-}
-
-#[no_mangle]
-pub extern "C" fn jd_compare(a: &[u8], b: &[u8], order: &mut i64) -> u32
-    ensures number { λ r. ⌜ r ≡ comparedNumber (compareAnswer (now (a .entry)) (now (b .entry))) ⌝ }
-    ensures value { λ r. ⌜ now (order .exit) ≡ toldOrder (compareAnswer (now (a .entry)) (now (b .entry))) (now (order .entry)) ⌝ }
-{
-    tell_order(keys::compare(a, b), order)
-}
-
-#[no_mangle]
-pub extern "C" fn jd_pivot_key(rec: &[u8], value: &mut u64) -> u32
-    ensures number { λ r. ⌜ r ≡ answerNumber (pivotKeyAnswer (now (rec .entry))) ⌝ }
-    ensures value { λ r. ⌜ now (value .exit) ≡ told (pivotKeyAnswer (now (rec .entry))) (now (value .entry)) ⌝ }
-{
-    tell(keys::pivot_key(rec), value)
-}
-
-#[no_mangle]
-pub extern "C" fn jd_entry_key(entry: &[u8], value: &mut u64) -> u32
-    ensures number { λ r. ⌜ r ≡ answerNumber (entryKeyAnswer (now (entry .entry))) ⌝ }
-    ensures value { λ r. ⌜ now (value .exit) ≡ told (entryKeyAnswer (now (entry .entry))) (now (value .entry)) ⌝ }
-{
-    tell(keys::entry_key(entry), value)
-}
-
-#[no_mangle]
-pub extern "C" fn jd_change_prefix(
-    key: &[u8],
-    old: &[u8],
-    new: &[u8],
-    dest: &mut [u8],
-    value: &mut u64,
-) -> u32
-    ensures number { λ r. ⌜ r ≡ answerNumber (changePrefixAnswer (now (key .entry)) (now (old .entry)) (now (new .entry)) (now (dest .entry))) ⌝ }
-    ensures value { λ r. ⌜ now (value .exit) ≡ told (changePrefixAnswer (now (key .entry)) (now (old .entry)) (now (new .entry)) (now (dest .entry))) (now (value .entry)) ⌝ }
-    ensures written { λ r. ⌜ now (dest .exit) ≡ changePrefixLeaves (now (key .entry)) (now (old .entry)) (now (new .entry)) (now (dest .entry)) ⌝ }
-{
-    tell(keys::change_prefix(key, old, new, dest), value)
-}
-
-#[no_mangle]
-pub extern "C" fn jd_pivot_lcp(left: &[u8], right: &[u8], value: &mut u64) -> u32
-    ensures number { λ r. ⌜ r ≡ answerNumber (pivotLcpAnswer (now (left .entry)) (now (right .entry))) ⌝ }
-    ensures value { λ r. ⌜ now (value .exit) ≡ told (pivotLcpAnswer (now (left .entry)) (now (right .entry))) (now (value .entry)) ⌝ }
-{
-    tell(range_prefix::pivot_lcp(left, right), value)
-}
-
-#[no_mangle]
-pub extern "C" fn jd_shortest_uncommon_prefix(
-    prefix: &[u8],
-    dest: &mut [u8],
-    value: &mut u64,
-) -> u32
-    ensures number { λ r. ⌜ r ≡ answerNumber (uncommonPrefixAnswer (now (prefix .entry)) (now (dest .entry))) ⌝ }
-    ensures value { λ r. ⌜ now (value .exit) ≡ told (uncommonPrefixAnswer (now (prefix .entry)) (now (dest .entry))) (now (value .entry)) ⌝ }
-    ensures written { λ r. ⌜ now (dest .exit) ≡ uncommonPrefixLeaves (now (prefix .entry)) (now (dest .entry)) ⌝ }
-{
-    tell(upper_bound::shortest_uncommon_prefix(prefix, dest), value)
-}
+pub use of_keys::jd_change_prefix;
+pub use of_keys::jd_compare;
+pub use of_keys::jd_entry_key;
+pub use of_keys::jd_pivot_key;
+pub use of_keys::jd_pivot_lcp;
+pub use of_keys::jd_shortest_uncommon_prefix;
+pub use of_tables::jd_bounded_key;
+pub use of_tables::jd_contains_all_keys;
+pub use of_tables::jd_contains_range;
+pub use of_tables::jd_cutoff_for_left;
+pub use of_tables::jd_cutoff_for_right;
+pub use of_tables::jd_get_key;
+pub use of_tables::jd_init_pivot_table;
+pub use of_tables::jd_pivot_insertable;
+pub use of_tables::jd_route;
+pub use of_tables::jd_valid_left_cut_off_key;
+pub use of_tables::jd_wf_edges;
+pub use of_tables::jd_wf_pivots;

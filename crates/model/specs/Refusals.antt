@@ -80,6 +80,16 @@ unfoldable pub toldOrder : Compared → ℤ → ℤ
 toldOrder (compared.Order z) old = z
 toldOrder (compared.Refused r) old = old
 
+-- "yes" and "no" are 1 and 0, and a slot its number
+unfoldable pub decidedAnswer : Decided → Answer
+decidedAnswer decided.Yes = answers.Value 1
+decidedAnswer decided.No = answers.Value 0
+decidedAnswer (decided.Refused r) = answers.Refused r
+
+unfoldable pub slotAnswer : Routed → Answer
+slotAnswer (routed.Slot n) = answers.Value n
+slotAnswer (routed.Refused r) = answers.Refused r
+
 -- ---- bytes
 
 -- w written at the head of d: "Bytes after what is written don't change"

@@ -8,12 +8,15 @@ pub enum Kind {
     Key,
     Record,
     Entry,
+    Pivots,
+    Edges,
 }
 
 pub struct Call {
     pub name: &'static str,
     /// The slices, in the order of the C function.
     pub arguments: &'static [(&'static str, Kind)],
+    pub takes_place: bool,
     pub writes: bool,
     pub archive: fn(&Asked, &mut Lent) -> u32,
     /// As C does it: the status returned, the destination and the number changed in place.
@@ -64,7 +67,7 @@ impl Call {
             .zip(asked.slices)
             .map(|((name, _), slice)| format!("{name} {}", Hex(slice)))
             .collect();
-        if asked.place != 0 {
+        if self.takes_place {
             parts.push(format!("place {}", asked.place));
         }
         if self.writes {

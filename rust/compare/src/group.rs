@@ -5,6 +5,8 @@ use crate::lent::{before, number_before, Lent};
 /// What is written down by hand for a case.
 pub enum Wanted<'a> {
     Refusal(u32),
+    /// Accepted, with nothing told.
+    Taken,
     /// The number, and what stands at the head of the destination.
     Answer(i64, &'a [u8]),
 }
@@ -123,6 +125,7 @@ fn fault(
     let as_written_down = match wanted {
         None => true,
         Some(Wanted::Refusal(status)) => archive.status == *status,
+        Some(Wanted::Taken) => archive.status == 0 && archive.number == number_before(salt),
         Some(Wanted::Answer(number, head)) => {
             let (written, rest) = archive.dest.split_at(head.len());
             let accepted = archive.status == 0 && archive.number == *number as u64;

@@ -34,6 +34,7 @@ fn length(key: Result<&[u8], Refusal>) -> Result<u64, Refusal> {
 pub static COMPARE: Call = Call {
     name: "compare",
     arguments: &[("a", Kind::Record), ("b", Kind::Record)],
+    takes_place: false,
     writes: false,
     archive: |_: &Asked, lent: &mut Lent| {
         let [a, b, _] = lent.slices();
@@ -48,6 +49,7 @@ pub static COMPARE: Call = Call {
 pub static PIVOT_KEY: Call = Call {
     name: "pivot_key",
     arguments: &[("record", Kind::Record)],
+    takes_place: false,
     writes: false,
     archive: |_, lent| {
         let [record, ..] = lent.slices();
@@ -59,6 +61,7 @@ pub static PIVOT_KEY: Call = Call {
 pub static ENTRY_KEY: Call = Call {
     name: "entry_key",
     arguments: &[("entry", Kind::Entry)],
+    takes_place: false,
     writes: false,
     archive: |_, lent| {
         let [entry, ..] = lent.slices();
@@ -70,6 +73,7 @@ pub static ENTRY_KEY: Call = Call {
 pub static CHANGE_PREFIX: Call = Call {
     name: "change_prefix",
     arguments: &[("key", Kind::Key), ("old", Kind::Key), ("new", Kind::Key)],
+    takes_place: false,
     writes: true,
     archive: |_, lent| {
         let [key, old, new] = lent.slices();
@@ -100,6 +104,7 @@ pub static CHANGE_PREFIX: Call = Call {
 pub static PIVOT_LCP: Call = Call {
     name: "pivot_lcp",
     arguments: &[("left", Kind::Key), ("right", Kind::Record)],
+    takes_place: false,
     writes: false,
     archive: |_, lent| {
         let [left, right, _] = lent.slices();
@@ -114,6 +119,7 @@ pub static PIVOT_LCP: Call = Call {
 pub static SHORTEST_UNCOMMON_PREFIX: Call = Call {
     name: "shortest_uncommon_prefix",
     arguments: &[("prefix", Kind::Key)],
+    takes_place: false,
     writes: true,
     archive: |_, lent| {
         let [prefix, ..] = lent.slices();

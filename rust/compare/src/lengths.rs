@@ -1,14 +1,15 @@
 //! One group for each call: slices of every length from 0 to 140 in each argument and in the
 //! destination, beside good and bad slices in the others. So every order of causes over the
 //! arguments comes up.
-use crate::call::{Call, Kind};
+use crate::call::{Asked, Call, Kind};
 use crate::group::Group;
 use crate::inputs::{counted, entry, field_record, record, MAX, NO_EDGE};
+use crate::tables::inputs::{usual_edges, usual_pivots};
 
 const LONGEST: usize = 140;
 
 /// Good and bad slices for an argument: some refused with 1, some with 2, some taken.
-fn usual(kind: Kind) -> Vec<Vec<u8>> {
+pub fn usual(kind: Kind) -> Vec<Vec<u8>> {
     let records = [record(&[0x41, 0x30]), record(&[0x42])];
     let marks = [MAX, NO_EDGE, 65].map(field_record);
     let records = records.iter().chain(&marks);
@@ -19,6 +20,8 @@ fn usual(kind: Kind) -> Vec<Vec<u8>> {
             records.map(|r| r.to_vec()).chain(wrong).collect()
         }
         Kind::Entry => records.map(|r| entry(r).to_vec()).collect(),
+        Kind::Pivots => usual_pivots(),
+        Kind::Edges => usual_edges(),
     }
 }
 
@@ -29,8 +32,12 @@ fn contents(len: usize) -> Vec<Vec<u8>> {
     vec![vec![0; len], vec![0xFF; len], counted(len), good]
 }
 
-/// All ways to choose one slice for each argument, with the destinations given.
-fn choices(group: &mut Group, call: &Call, slices: &[Vec<Vec<u8>>], dests: &[usize]) {
+/// Places inside a table, at and past its end, and past every count.
+const PLACES: [u64; 9] = [0, 1, 2, 3, 63, 64, 65, 1 << 32, u64::MAX];
+
+/// All ways to choose one slice for each argument, with the destinations given, and with places
+/// where the call takes one.
+pub fn choices(group: &mut Group, call: &Call, slices: &[Vec<Vec<u8>>], dests: &[usize]) {
     let ways: usize = slices.iter().map(Vec::len).product();
     for way in 0..ways {
         let mut left = way;
@@ -42,8 +49,19 @@ fn choices(group: &mut Group, call: &Call, slices: &[Vec<Vec<u8>>], dests: &[usi
                 &one[..]
             })
             .collect();
+        let slices = &chosen[..];
+        let places = if call.takes_place { &PLACES[..] } else { &[0] };
         for &dest in dests {
-            group.compare(call, &chosen, dest);
+            for &place in places {
+                group.case(
+                    call,
+                    &Asked {
+                        slices,
+                        place,
+                        dest,
+                    },
+                );
+            }
         }
     }
 }

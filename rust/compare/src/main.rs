@@ -12,6 +12,7 @@ mod orders;
 mod random;
 mod range_prefixes;
 mod rows;
+mod tables;
 mod upper_bounds;
 mod wrapper;
 
@@ -80,14 +81,19 @@ fn tests_of_every_call() -> Vec<Test> {
         let name = format!("{}: every length", call.name);
         tests.push(test(name, |group| lengths::every_length(group, call)));
         let name = format!("{}: random", call.name);
-        tests.push(test(name, |group| random::cases(group, call)));
+        tests.push(test(name, |group| random::cases(group, call, 200_000)));
     }
     tests
 }
 
 fn main() -> ExitCode {
     let (mut passed, mut failed) = (0, 0);
-    let tests = [tests_by_hand(), tests_of_one_call(), tests_of_every_call()];
+    let tests = [
+        tests_by_hand(),
+        tests_of_one_call(),
+        tests_of_every_call(),
+        tables::tests(),
+    ];
     for test in tests.into_iter().flatten() {
         let mut group = Group::default();
         if catch_unwind(AssertUnwindSafe(|| (test.body)(&mut group))).is_err() {

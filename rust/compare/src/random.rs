@@ -1,10 +1,10 @@
 //! One group for each call: random slices, the same in every run. The slices of a case come from
 //! one random key, so that they often begin alike; some are changed or are random bytes alone.
-use crate::call::{Call, Kind};
+use crate::call::{Asked, Call, Kind};
 use crate::group::Group;
 use crate::inputs::{entry, field_record, record, Xorshift, BYTES, MAX, NO_EDGE};
+use crate::tables::inputs::{random_edges, random_pivots};
 
-const CASES: usize = 200_000;
 const SEED: u64 = 20_250_627;
 
 fn random_bytes(random: &mut Xorshift, len: usize) -> Vec<u8> {
@@ -23,7 +23,7 @@ fn base(random: &mut Xorshift) -> Vec<u8> {
 }
 
 /// A key near the base: cut, one byte one more or less, or drawn out.
-fn near(random: &mut Xorshift, base: &[u8]) -> Vec<u8> {
+pub fn near(random: &mut Xorshift, base: &[u8]) -> Vec<u8> {
     let cut = random.below(base.len() + 1);
     let mut key = base[..if random.one_in(2) { base.len() } else { cut }].to_vec();
     if !key.is_empty() && random.one_in(3) {
@@ -66,12 +66,14 @@ fn slice(random: &mut Xorshift, kind: Kind, base: &[u8]) -> Vec<u8> {
             Ok(record) => entry(&record).to_vec(),
             Err(bytes) => bytes,
         },
+        Kind::Pivots => random_pivots(random, base),
+        Kind::Edges => random_edges(random, base),
     }
 }
 
-pub fn cases(group: &mut Group, call: &Call) {
+pub fn cases(group: &mut Group, call: &Call, count: usize) {
     let mut random = Xorshift::new(SEED);
-    for _ in 0..CASES {
+    for _ in 0..count {
         let base = base(&mut random);
         let slices: Vec<Vec<u8>> = call
             .arguments
@@ -80,6 +82,15 @@ pub fn cases(group: &mut Group, call: &Call) {
             .collect();
         let slices: Vec<&[u8]> = slices.iter().map(|slice| &slice[..]).collect();
         let dest = if call.writes { random.below(141) } else { 0 };
-        group.compare(call, &slices, dest);
+        let place = random.below(8) as u64;
+        let slices = &slices[..];
+        group.case(
+            call,
+            &Asked {
+                slices,
+                place,
+                dest,
+            },
+        );
     }
 }

@@ -4,7 +4,7 @@ use crate::group::Group;
 use crate::inputs::{counted, entry, field_record, record, small_keys, MAX, NO_EDGE};
 use std::fmt::Debug;
 
-fn same<T: PartialEq + Debug>(
+pub fn same<T: PartialEq + Debug>(
     group: &mut Group,
     call: &str,
     slices: &[&[u8]],
@@ -60,7 +60,7 @@ pub fn keys_and_records(group: &mut Group) {
 }
 
 /// The result of a call, and what it leaves in a destination of this length and around it.
-fn into<R>(len: usize, call: impl Fn(&mut [u8]) -> R) -> (R, Vec<u8>) {
+pub fn into<R>(len: usize, call: impl Fn(&mut [u8]) -> R) -> (R, Vec<u8>) {
     let mut bytes = vec![7; len + 16];
     (call(&mut bytes[8..8 + len]), bytes)
 }

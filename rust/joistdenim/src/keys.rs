@@ -4,7 +4,7 @@ use crate::refusal::Refusal;
 use std::cmp::Ordering;
 
 /// A record's key begins after its length field.
-const KEY_AT: usize = 2;
+pub(crate) const KEY_AT: usize = 2;
 
 /// The order of two elements. Refuses 1, 2.
 pub fn compare(a: &[u8], b: &[u8]) -> Result<Ordering, Refusal> {

@@ -15,13 +15,21 @@
 mod keys;
 pub mod raw;
 mod refusal;
+mod tables;
 
 pub use keys::{change_prefix, compare, entry_key, pivot_key, pivot_lcp, shortest_uncommon_prefix};
 pub use refusal::Refusal;
+pub use tables::{
+    bounded_key, contains_all_keys, contains_range, cutoff_for_left, cutoff_for_right, get_key,
+    init_pivot_table, pivot_insertable, route, valid_left_cut_off_key, wf_edges, wf_pivots,
+};
 
 /// The longest key, in bytes.
 pub const MAX_LEN: usize = 64;
 /// The bytes of a record.
 pub const RECORD_SIZE: usize = 66;
+/// The fewest and the most pivots of a table.
+pub const MIN_PIVOTS: usize = 2;
+pub const MAX_PIVOTS: usize = 64;
 /// The bytes of an entry: a record with a key, and a number of four bytes.
 pub const ENTRY_SIZE: usize = 70;

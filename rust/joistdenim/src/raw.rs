@@ -3,6 +3,9 @@
 //! Each returns 0 or a refusal's number and answers through its last pointer. The pointers must
 //! not be null and must be good for their lengths, and what is written overlaps nothing else.
 
+mod tables;
+pub use tables::*;
+
 extern "C" {
     pub fn jd_compare(
         a: *const u8,

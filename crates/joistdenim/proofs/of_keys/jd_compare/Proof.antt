@@ -1,8 +1,8 @@
 -- `joistdenim::jd_compare` meets its contract.
 use Rattle.joistdenim.proofs.Telling.{passing}
 use borrow.Author.Needs.{needs}
-use Rattle.joistdenim.proofs.jd_compare.Statement.{statement}
-use Rattle.joistdenim.proofs.jd_compare.Tie as tie
+use Rattle.joistdenim.proofs.of_keys.jd_compare.Statement.{statement}
+use Rattle.joistdenim.proofs.of_keys.jd_compare.Tie as tie
 
 ruleset rules = (needs, passing)
 

@@ -1,8 +1,8 @@
 -- `joistdenim::tell` meets its contract.
 use Rattle.joistdenim.proofs.Telling.{telling}
 use borrow.Author.Needs.{needs}
-use Rattle.joistdenim.proofs.tell.Statement.{statement}
-use Rattle.joistdenim.proofs.tell.Tie as tie
+use Rattle.joistdenim.proofs.tell.tell.Statement.{statement}
+use Rattle.joistdenim.proofs.tell.tell.Tie as tie
 
 ruleset rules = (needs, telling)
 
@@ -16,10 +16,10 @@ refusal-number-requires : tie.Need-refusal-number-requires
 refusal-number-requires c κs = search rules
 
 returns : tie.Need-returns
-returns c = search rules
+returns c = (search rules, search rules)
 
 returns-2 : tie.Need-returns-2
-returns-2 c = search rules
+returns-2 c = (search rules, search rules)
 
 pub tell-spec : {M : Type 1} → statement M
 tell-spec =

@@ -1,8 +1,8 @@
 -- `joistdenim::jd_pivot_key` meets its contract.
 use Rattle.joistdenim.proofs.Telling.{passing}
 use borrow.Author.Needs.{needs}
-use Rattle.joistdenim.proofs.jd_pivot_key.Statement.{statement}
-use Rattle.joistdenim.proofs.jd_pivot_key.Tie as tie
+use Rattle.joistdenim.proofs.of_keys.jd_pivot_key.Statement.{statement}
+use Rattle.joistdenim.proofs.of_keys.jd_pivot_key.Tie as tie
 
 ruleset rules = (needs, passing)
 
