@@ -11,4 +11,12 @@ pub mod Places
 pub mod Insertable
 pub mod Routing
 pub mod TableBytes
+pub mod Between
+pub mod Slots
+pub mod Ranges
+pub mod Cuts
+pub mod CutEdges
+pub mod SplitEdges
+pub mod Preserved
+pub mod PlainCut
 pub mod Rows

@@ -1,6 +1,6 @@
 -- Facts on lists and numbers that the proofs of several crates cite.
-use mathlib.Core.Path.{_≡_, refl, _∙_}
-use mathlib.Core.Bool.{Bool, true, false}
+use mathlib.Core.Path.{_≡_, refl, sym, ap, _∙_}
+use mathlib.Core.Bool.{Bool, true, false, _&&_, and-assoc}
 use mathlib.Core.List.{List, [], _∷_, _++_, map, append-assoc, append-nil}
 use mathlib.Core.Logic.{_⊎_, inl, inr, ⊎-elim}
 use Prim.Native.Nat.{ℕ, zero, suc, _+_, _-_, _≤_, _<_, min}
@@ -8,12 +8,14 @@ use native.Mathlib.Numerals.{add-one}
 use native.Mathlib.Omega.{arith}
 use lib.Dec.{leb}
 use borrow.Author.Tests.{leb-true, leb-false}
-use lib.ListN.{length, take, drop, getD, length-append, length-drop, drop-of-length-le}
+use lib.ListN.{length, take, drop, getD, length-append, length-drop, take-append-drop, drop-of-length-le}
 use lib.Seq.{drop-cons, drop-drop, take-all, take-length, take-append-seam, drop-append-seam}
 use borrow.Rule.Slice.PartMut.{putMid}
 use Rattle.model.specs.Key.{Key, maxLen}
 use Rattle.model.specs.Record.{clipped}
+use Rattle.model.specs.Tables.{all}
 use Rattle.model.specs.Refusals.{over, into}
+use Rattle.model.proofs.Prefix.{both}
 
 -- of two numbers one is at most the other
 pub le-or-lt : (a b : ℕ) → (a ≤ b) ⊎ (b < a)
@@ -90,3 +92,24 @@ written-on n a b d v w m h e g =
 pub clipped-all : (k : Key) → length k ≤ maxLen → clipped k ≡ k
 unfolding clipped
 clipped-all k h = take-all maxLen k h
+
+-- ---- a test that all pass
+
+module _ {A : Type 0} (test : A → Bool) where
+  -- all pass where each place does; past the end stands d
+  pub all-at : (xs : List A) (i : ℕ) (d : A) → test d ≡ true → all test xs ≡ true → test (getD xs i d) ≡ true
+  unfolding all
+  all-at [] i d e h = e
+  all-at (x ∷ xs) zero d e h = both (test x) (all test xs) h .0
+  all-at (x ∷ xs) (suc i) d e h = all-at xs i d e (both (test x) (all test xs) h .1)
+
+  -- all of two lists pass where all of each do
+  pub all-append : (xs ys : List A) → all test (xs ++ ys) ≡ (all test xs && all test ys)
+  unfolding all
+  all-append [] ys = refl
+  all-append (x ∷ xs) ys = ap (_&&_ (test x)) (all-append xs ys) ∙ sym (and-assoc (test x) (all test xs) (all test ys))
+
+  -- the first that stand in such a list and those that follow them pass
+  pub all-parts : (n : ℕ) (xs : List A) → all test xs ≡ true → (all test (take n xs) ≡ true) × (all test (drop n xs) ≡ true)
+  all-parts n xs h =
+      both (all test (take n xs)) (all test (drop n xs)) (sym (all-append (take n xs) (drop n xs)) ∙ rw (take-append-drop n xs) h)

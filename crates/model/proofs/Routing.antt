@@ -14,6 +14,7 @@ use Rattle.model.specs.RangePrefix.{InBetween}
 use Rattle.model.specs.Tables.{PivotTable, pivotAt, lastPivot, NumBuckets, all, shortElement, minPivots, risesFrom, IsStrictlySorted, WFPivots}
 use Rattle.model.specs.Tables.{InitPivotTable, ContainsAllKeys, ContainsRange}
 use Rattle.model.specs.Tables.{BoundedKey, ValidLeftCutOffKey, Route, CutoffForLeft, CutoffForRight, keyOf, GetKey}
+use Rattle.model.proofs.Lists.{all-at}
 use Rattle.model.proofs.Order.{lte-refl, lte-trans, lt-false, lt-trans-lte, below-key, max-above}
 use Rattle.model.proofs.Places.{sorted-head, sorted-tail, sorted-at, place-turn, place-at, place-le, passes-more, within, within-place, bounded-within, valid-within}
 use Rattle.model.proofs.Prefix.{both}
@@ -33,13 +34,6 @@ wf-of [] s h k = absurd (omega arith)
 wf-of (p ∷ pt) s h k =
     let n : length (p ∷ pt) - 1 ≡ length pt = omega arith in
     rw (s, n, sorted-keys p pt s, h, le-leb minPivots (length (p ∷ pt)) k)
-
--- what all pass, each passes
-pub all-at {ℓ} : {A : Type ℓ} (test : A → Bool) (xs : List A) (i : ℕ) (d : A) → all test xs ≡ true → i < length xs → test (getD xs i d) ≡ true
-unfolding all
-all-at test [] i d h k = absurd (omega arith)
-all-at test (x ∷ xs) zero d h k = both (test x) (all test xs) h .0
-all-at test (x ∷ xs) (suc i) d h k = all-at test xs i d (both (test x) (all test xs) h .1) (omega arith)
 
 module _ (pt : PivotTable) (w : WFPivots pt ≡ true) where
   -- the last two of its four parts, each with what comes before it
@@ -68,7 +62,7 @@ module _ (pt : PivotTable) (w : WFPivots pt ≡ true) where
 
   -- the pivot at a place is max or has at most 64 bytes
   pub wf-short : (i : ℕ) → i < length pt → shortElement (pivotAt pt i) ≡ true
-  wf-short i h = all-at shortElement pt i max wf-all-short h
+  wf-short i h = all-at shortElement pt i max refl wf-all-short
 
 -- ---- slots, by either test
 

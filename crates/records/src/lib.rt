@@ -3,9 +3,9 @@ mod read;
 mod write;
 
 pub use read::field_reading;
+pub use read::holds;
 pub use read::holds_edge;
 pub use read::holds_element;
-pub use read::holds_key;
 pub use read::is_max;
 pub use read::is_no_edge;
 pub use read::key_bytes;

@@ -4,7 +4,7 @@ use model::Reading;
 ghost use mathlib.Core.Path.{_≡_};
 ghost use Prim.Native.Nat.{_+_, _≤_, _<_};
 ghost use lib.Dec.{eqb};
-ghost use Rattle.model.specs.Record.{lengthField, fieldReading, keyLength, reading, keyBytes, allowed, keyReading, elementReading, edgeReading, noEdgeMark, maxMark, recordAt};
+ghost use Rattle.model.specs.Record.{lengthField, fieldReading, keyLength, reading, keyBytes, allowed, elementReading, edgeReading, noEdgeMark, maxMark, recordAt};
 
 fn wide16(x: u8) -> u16
     ensures { λ r. ⌜ (r ≡ x) × (r < 256) ⌝ }
@@ -87,25 +87,25 @@ fn allows(way: Reading, empty: bool, max: bool) -> bool
     }
 }
 
-// Whether a record is a key's.
-pub fn holds_key(rec: &[u8]) -> bool
-    ensures { λ r. ⌜ r ≡ keyReading (reading (now (rec .entry))) ⌝ }
+// Whether a record is a key's or, where they are allowed, "no edge" or max.
+pub fn holds(rec: &[u8], empty: bool, max: bool) -> bool
+    ensures { λ r. ⌜ r ≡ allowed empty max (reading (now (rec .entry))) ⌝ }
 {
-    allows(read_record(rec), false, false)
+    allows(read_record(rec), empty, max)
 }
 
 // Whether a record is a key's or max.
 pub fn holds_element(rec: &[u8]) -> bool
     ensures { λ r. ⌜ r ≡ elementReading (reading (now (rec .entry))) ⌝ }
 {
-    allows(read_record(rec), false, true)
+    holds(rec, false, true)
 }
 
 // Whether a record is an edge's or "no edge".
 pub fn holds_edge(rec: &[u8]) -> bool
     ensures { λ r. ⌜ r ≡ edgeReading (reading (now (rec .entry))) ⌝ }
 {
-    allows(read_record(rec), true, false)
+    holds(rec, true, false)
 }
 
 // The bytes that the length field counts, as a part of the record.

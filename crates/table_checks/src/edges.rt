@@ -71,12 +71,12 @@ fn slot_fits(pivots: &[u8], edges: &[u8], i: usize) -> bool
 fn edges_fit(pivots: &[u8], edges: &[u8]) -> bool
     ensures { λ r. ⌜ r ≡ edgesStand (now (pivots .entry)) (now (edges .entry)) ⌝ }
 {
-    let count = edges.len() / RECORD_SIZE;
-    if pivots.len() / RECORD_SIZE != count + 1 {
+    let slots = edges.len() / RECORD_SIZE;
+    if pivots.len() / RECORD_SIZE != slots + 1 {
         return false;
     }
     let mut i = 0;
-    while i < count {
+    while i < slots {
         if !slot_fits(pivots, edges, i) {
             return false;
         }

@@ -32,11 +32,10 @@ fn rises_on(pivots: &[u8], i: usize, rises: bool) -> bool
     requires { ⌜ i < length (now pivots) / recordSize ⌝ }
     ensures { λ r. ⌜ r ≡ (rises && lt (element (recordAt (now (pivots .entry)) i)) (element (recordAt (now (pivots .entry)) (i + 1)))) ⌝ }
 {
+    let here = records::record_at(pivots, i);
+    let next = records::record_at(pivots, i + 1);
     if rises {
-        return keys::is_below(
-            records::record_at(pivots, i),
-            records::record_at(pivots, i + 1),
-        );
+        return keys::is_below(here, next);
     }
     false
 }
@@ -50,13 +49,13 @@ fn read_pivots(pivots: &[u8]) -> Answer
     let mut rises = true;
     let mut i = 0;
     while i + 1 < count {
-        if !records::holds_key(records::record_at(pivots, i)) {
+        if !records::holds(records::record_at(pivots, i), false, false) {
             return Answer::Refused(Refusal::Malformed);
         }
         rises = rises_on(pivots, i, rises);
         i += 1;
     }
-    if !records::holds_element(records::record_at(pivots, i)) {
+    if !records::holds(records::record_at(pivots, i), false, true) {
         return Answer::Refused(Refusal::Malformed);
     }
     if !rises {

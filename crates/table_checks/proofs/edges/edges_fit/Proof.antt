@@ -8,10 +8,10 @@ use Rattle.table_checks.proofs.edges.edges_fit.Tie as tie
 ruleset rules = (needs, other-count, stand-start, stand-over, stands-not, stand-next)
 
 abbrev Inv-loop : tie.InvT-loop
-Inv-loop pivots edges count i₀ i = Standing pivots edges i
+Inv-loop pivots edges slots i₀ i = Standing pivots edges i
 
 abbrev μ-loop : tie.MeasureT-loop
-μ-loop pivots edges count i₀ i = count - i
+μ-loop pivots edges slots i₀ i = slots - i
 
 add-if1 : tie.Need-add-if1 Inv-loop μ-loop
 add-if1 c = search rules

@@ -22,8 +22,8 @@ add-loop c = search rules
 record-at-requires : tie.Need-record-at-requires Inv-loop μ-loop
 record-at-requires c κs = search rules
 
-holds-key-requires : tie.Need-holds-key-requires Inv-loop μ-loop
-holds-key-requires c κs = search rules
+holds-requires : tie.Need-holds-requires Inv-loop μ-loop
+holds-requires c κs = search rules
 
 returns : tie.Need-returns Inv-loop μ-loop
 returns c = search rules
@@ -43,8 +43,8 @@ loop-again c = search rules
 record-at-requires-2 : tie.Need-record-at-requires-2 Inv-loop μ-loop
 record-at-requires-2 c κs = search rules
 
-holds-element-requires : tie.Need-holds-element-requires Inv-loop μ-loop
-holds-element-requires c κs = search rules
+holds-requires-2 : tie.Need-holds-requires-2 Inv-loop μ-loop
+holds-requires-2 c κs = search rules
 
 returns-2 : tie.Need-returns-2 Inv-loop μ-loop
 returns-2 c = search rules
@@ -64,14 +64,14 @@ read-pivots-spec =
     loop-holds
     add-loop
     record-at-requires
-    holds-key-requires
+    holds-requires
     returns
     rises-on-requires
     add-i
     loop-less
     loop-again
     record-at-requires-2
-    holds-element-requires
+    holds-requires-2
     returns-2
     returns-3
     returns-4)
