@@ -41,7 +41,7 @@ pub fn entry_key(entry: &[u8]) -> Answer
     if entry.len() != ENTRY_SIZE {
         return Answer::Refused(Refusal::Shape);
     }
-    pivot_key(&entry[..66])
+    pivot_key(&entry[..RECORD_SIZE])
 }
 
 // The part of an entry that its key fills, or an empty part where entry_key refuses.
@@ -51,5 +51,5 @@ pub fn entry_key_part(entry: &[u8]) -> &[u8]
     if entry.len() != ENTRY_SIZE {
         return &entry[..0];
     }
-    pivot_key_part(&entry[..66])
+    pivot_key_part(&entry[..RECORD_SIZE])
 }

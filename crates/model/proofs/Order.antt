@@ -180,7 +180,7 @@ pub lt-lte : (a b : Element) → lt a b ≡ true → lte a b ≡ true
 lt-lte a b h = lte-total b a (lt-false a b h)
 
 -- a test that cannot be passed is failed
-refuted : (t : Bool) → (t ≡ true → ⊥) → t ≡ false
+pub refuted : (t : Bool) → (t ≡ true → ⊥) → t ≡ false
 refuted true h = absurd (h refl)
 refuted false h = refl
 

@@ -66,13 +66,14 @@ element r = cond (eqb (lengthField r) maxMark) max (key (keyBytes r))
 unfoldable pub edgeOf : List ℕ → Edge
 edgeOf r = cond (eqb (lengthField r) noEdgeMark) noEdge (edge (keyBytes r))
 
--- the readings that fit: a key; a key or max; a key or no edge
+-- the readings that fit a place: a key, and each mark where it may stand
 abbrev pub allowed : Bool → Bool → Reading → Bool
 allowed orNoEdge orMax (reads.Key n) = true
 allowed orNoEdge orMax reads.Malformed = false
 allowed orNoEdge orMax reads.NoEdge = orNoEdge
 allowed orNoEdge orMax reads.Max = orMax
 
+-- where a key must stand, where an element, and where an edge
 abbrev pub keyReading : Reading → Bool
 keyReading w = allowed false false w
 
@@ -117,6 +118,7 @@ joined (r ∷ rs) = r ++ joined rs
 unfoldable pub records : List ℕ → List (List ℕ)
 records l = pieces recordSize (length l / recordSize) l
 
+-- the record at a place; none past the last
 abbrev pub recordAt : List ℕ → ℕ → List ℕ
 recordAt l i = getD (records l) i []
 

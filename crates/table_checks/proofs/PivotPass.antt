@@ -1,6 +1,6 @@
 -- One pass over pivots: what is known of the whole table by what is left of it.
 use mathlib.Core.Path.{_≡_, refl, sym, _∙_}
-use mathlib.Core.Bool.{Bool, true, false, cond, not, _&&_, _||_}
+use mathlib.Core.Bool.{Bool, true, false, cond, not, _&&_, _||_, and-assoc}
 use mathlib.Core.List.{List, [], _∷_}
 use Prim.Native.Nat.{ℕ, suc, _+_, _/_, _%_, _≤_, _<_}
 use native.Mathlib.Numerals.{add-one}
@@ -65,10 +65,6 @@ pub record Pass (p : List ℕ) (i : ℕ) (rises : Bool) : Type 0 where
   pub read : pivotsRead (records p) ≡ pivotsRead (drop i (records p))
   pub sorted : IsStrictlySorted (elements p) ≡ (rises && IsStrictlySorted (drop i (elements p)))
 
-and-assoc : (a b c : Bool) → (a && (b && c)) ≡ ((a && b) && c)
-and-assoc true b c = refl
-and-assoc false b c = refl
-
 module _ (p : List ℕ) where
   pub start : notPivotCount p ≡ false → Pass p 0 true
   unfolding notPivotCount
@@ -107,7 +103,7 @@ module _ (p : List ℕ) where
             inside = more;
             read = rw (not-false t h) at here-read;
             sorted =
-                rw (g, ← element-at p i (w .inside), ← element-at p (i + 1) more, ← and-assoc, ← rise-on (elements p) i (omega (arith, length-elements p)))
+                rw (g, ← element-at p i (w .inside), ← element-at p (i + 1) more, and-assoc, ← rise-on (elements p) i (omega (arith, length-elements p)))
                 (w .sorted);
           }
 

@@ -13,6 +13,7 @@ use Rattle.model.specs.Order.{Element, key, lte, lt, passes}
 use Rattle.model.specs.Record.{recordSize, recordAt, element, elements}
 use Rattle.model.specs.Tables.{PivotTable, pivotAt, WFPivots, PivotInsertable}
 use Rattle.model.proofs.Lists.{le-or-lt}
+use Rattle.model.proofs.Order.{refuted}
 use Rattle.model.proofs.Insertable.{Gap, gap-insertable, insertable-gap}
 use Rattle.model.proofs.Routing.{wf-sorted, wf-count}
 use Rattle.model.proofs.TableBytes.{length-elements, element-at}
@@ -36,20 +37,15 @@ module _ (p : List ℕ) (i : ℕ) (k : Key) where
 
 -- ---- between both
 
--- what refutes a claim makes it false
-refuted : (t : Bool) → (t ≡ true → ⊥) → false ≡ t
-refuted true h = absurd (h refl)
-refuted false h = refl
-
 or-right : (a b : Bool) → a ≡ false → (a || b) ≡ true → b ≡ true
 or-right a b h e = rw h at e
 
 module _ (p : List ℕ) (i : ℕ) (k : Key) (wf : WFPivots (elements p) ≡ true) where
   pub past-count : length p / 66 < i → false ≡ PivotInsertable (elements p) i k
   past-count h =
-      refuted _ (λ e.
+      sym (refuted _ (λ e.
       let g = insertable-gap (elements p) i k (wf-sorted (elements p) wf) (wf-count (elements p) wf) e in
-      omega (arith, g .inside, length-elements p))
+      omega (arith, g .inside, length-elements p)))
 
   gap : PivotInsertable (elements p) i k ≡ true → Gap (elements p) i k
   gap = insertable-gap (elements p) i k (wf-sorted (elements p) wf) (wf-count (elements p) wf)
@@ -83,7 +79,7 @@ module _ (p : List ℕ) (i : ℕ) (k : Key) (wf : WFPivots (elements p) ≡ true
 
     module _ (t : Bool) (f : t ≡ (eqb i 0 || lt (element (recordAt p (i - 1))) (key k))) where
       pub not-after : not t ≡ true → false ≡ PivotInsertable (elements p) i k
-      not-after h = refuted _ (λ e. true≢false (sym (f ∙ gap-follows (gap e)) ∙ not-true t h))
+      not-after h = sym (refuted _ (λ e. true≢false (sym (f ∙ gap-follows (gap e)) ∙ not-true t h)))
 
       pub between : (u : Bool) → not t ≡ false → u ≡ (leb (length p / recordSize) i || lt (key k) (element (recordAt p i)))
           → u ≡ PivotInsertable (elements p) i k
@@ -97,4 +93,4 @@ module _ (p : List ℕ) (i : ℕ) (k : Key) (wf : WFPivots (elements p) ≡ true
                 left = follows-gap (sym f ∙ not-false t h);
                 right = precedes-gap (sym e);
               }))
-          go false e = refuted _ (λ w. true≢false (sym (gap-precedes (gap w)) ∙ sym e))
+          go false e = sym (refuted _ (λ w. true≢false (sym (gap-precedes (gap w)) ∙ sym e)))

@@ -1,5 +1,7 @@
 // The first table.
 use model::Answer;
+use model::MIN_PIVOTS;
+use model::RECORD_SIZE;
 use model::Refusal;
 ghost use mathlib.Core.Path.{_≡_};
 ghost use Rattle.model.specs.TableCalls.{initPivotTableAnswer, initPivotTableLeaves};
@@ -9,11 +11,11 @@ pub fn init_pivot_table(dest: &mut [u8]) -> Answer
     ensures answered { λ r. ⌜ r ≡ initPivotTableAnswer (now (dest .entry)) ⌝ }
     ensures written { λ r. ⌜ now (dest .exit) ≡ initPivotTableLeaves (now (dest .entry)) ⌝ }
 {
-    if dest.len() < 132 {
+    if dest.len() < MIN_PIVOTS * RECORD_SIZE {
         return Answer::Refused(Refusal::NoRoom);
     }
     let none = [0u8; 1];
     records::put_record(0, &none[..0], dest);
-    records::put_record(65535, &none[..0], &mut dest[66..]);
+    records::put_record(65535, &none[..0], &mut dest[RECORD_SIZE..]);
     Answer::Value(2)
 }

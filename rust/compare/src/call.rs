@@ -31,6 +31,16 @@ pub struct Asked<'a> {
     pub dest: usize,
 }
 
+impl<'a> Asked<'a> {
+    pub fn new(slices: &'a [&'a [u8]], place: u64, dest: usize) -> Self {
+        Asked {
+            slices,
+            place,
+            dest,
+        }
+    }
+}
+
 /// What a call returned and left.
 pub struct Seen<'a> {
     pub status: u32,

@@ -29,14 +29,7 @@ impl Group {
     /// argument must be what the reference leaves.
     pub fn compare(&mut self, call: &Call, slices: &[&[u8]], dest: usize) {
         let place = 0;
-        self.case(
-            call,
-            &Asked {
-                slices,
-                place,
-                dest,
-            },
-        );
+        self.case(call, &Asked::new(slices, place, dest));
     }
 
     pub fn case(&mut self, call: &Call, asked: &Asked) {

@@ -53,14 +53,7 @@ pub fn choices(group: &mut Group, call: &Call, slices: &[Vec<Vec<u8>>], dests: &
         let places = if call.takes_place { &PLACES[..] } else { &[0] };
         for &dest in dests {
             for &place in places {
-                group.case(
-                    call,
-                    &Asked {
-                        slices,
-                        place,
-                        dest,
-                    },
-                );
+                group.case(call, &Asked::new(slices, place, dest));
             }
         }
     }

@@ -84,13 +84,6 @@ pub fn cases(group: &mut Group, call: &Call, count: usize) {
         let dest = if call.writes { random.below(141) } else { 0 };
         let place = random.below(8) as u64;
         let slices = &slices[..];
-        group.case(
-            call,
-            &Asked {
-                slices,
-                place,
-                dest,
-            },
-        );
+        group.case(call, &Asked::new(slices, place, dest));
     }
 }

@@ -9,15 +9,7 @@ use Wanted::{Answer, Refusal};
 
 fn case(group: &mut Group, call: &Call, slices: &[&[u8]], dest: usize, wanted: Wanted) {
     let place = 0;
-    group.expect(
-        call,
-        &Asked {
-            slices,
-            place,
-            dest,
-        },
-        &wanted,
-    );
+    group.expect(call, &Asked::new(slices, place, dest), &wanted);
 }
 
 /// Rows 1 to 7: the prefix of a range.

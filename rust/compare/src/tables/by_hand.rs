@@ -12,15 +12,7 @@ fn case(group: &mut Group, call: &Call, slices: &[&[u8]], wanted: Wanted) {
 
 fn at(group: &mut Group, call: &Call, slices: &[&[u8]], place: u64, wanted: Wanted) {
     let dest = 0;
-    group.expect(
-        call,
-        &Asked {
-            slices,
-            place,
-            dest,
-        },
-        &wanted,
-    );
+    group.expect(call, &Asked::new(slices, place, dest), &wanted);
 }
 
 /// A check answers yes by its status alone; the number stays as it was, so nothing is told.

@@ -30,14 +30,7 @@ fn every_place(group: &mut Group, call: &Call, slices: &[&[u8]], places: u64) {
     let dest = 0;
     let places = if call.takes_place { places } else { 0 };
     for place in 0..=places {
-        group.case(
-            call,
-            &Asked {
-                slices,
-                place,
-                dest,
-            },
-        );
+        group.case(call, &Asked::new(slices, place, dest));
     }
 }
 

@@ -7,6 +7,9 @@ use Rattle.tables.proofs.init.init_pivot_table.Tie as tie
 
 ruleset rules = (needs, answering, both-written)
 
+mul-if1 : tie.Need-mul-if1
+mul-if1 c = search rules
+
 returns : tie.Need-returns
 returns c = (search rules, search rules)
 
@@ -47,6 +50,7 @@ pub init-pivot-table-spec : {M : Type 1} → statement M
 init-pivot-table-spec =
     tie.close
     (tie.spec
+    mul-if1
     returns
     array-share-prefix-none
     slice-aggregate-put-record
