@@ -13,7 +13,6 @@ use Rattle.model.specs.declared.Compared.the-variants as compared
 use Rattle.model.specs.declared.Decided.{Decided}
 use Rattle.model.specs.declared.Decided.the-variants as decided
 use Rattle.model.specs.declared.Routed.{Routed}
-use Rattle.model.specs.declared.Routed.the-variants as routed
 use Rattle.model.specs.Refusals.{number, answerNumber, comparedNumber, told, toldOrder, decidedAnswer, slotAnswer}
 
 module _ (a : Answer) where
@@ -82,16 +81,7 @@ module _ (d : Decided) where
   unfolding decidedAnswer
   said-refused r e = rw e
 
-module _ (s : Routed) where
-  pub slot-told : (n : ℕ) → s ≡ routed.Slot n → answers.Value n ≡ slotAnswer s
-  unfolding slotAnswer
-  slot-told n e = rw e
-
-  pub slot-refused : (r : Refusal) → s ≡ routed.Refused r → answers.Refused r ≡ slotAnswer s
-  unfolding slotAnswer
-  slot-refused r e = rw e
-
-pub ruleset turning = (said-yes, said-no, said-refused, slot-told, slot-refused)
+pub ruleset turning = (said-yes, said-no, said-refused)
 
 pub ruleset telling = (value-number, value-told, refusal-number, refusal-told, order-number, order-told, order-refusal, order-kept)
 

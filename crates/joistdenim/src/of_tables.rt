@@ -1,6 +1,5 @@
 // The calls on tables.
 use crate::tell::decided_answer;
-use crate::tell::slot_answer;
 use crate::tell::tell;
 use crate::tell::tell_number;
 ghost use mathlib.Core.Path.{_≡_};
@@ -97,7 +96,7 @@ pub extern "C" fn jd_route(pivots: &[u8], key: &[u8], value: &mut u64) -> u32
     ensures number { λ r. ⌜ r ≡ answerNumber (slotAnswer (routeAnswer (now (pivots .entry)) (now (key .entry)))) ⌝ }
     ensures value { λ r. ⌜ now (value .exit) ≡ told (slotAnswer (routeAnswer (now (pivots .entry)) (now (key .entry)))) (now (value .entry)) ⌝ }
 {
-    tell(slot_answer(routing::route(pivots, key)), value)
+    tell(routing::slot_answer(routing::route(pivots, key)), value)
 }
 
 #[no_mangle]
@@ -105,7 +104,10 @@ pub extern "C" fn jd_cutoff_for_left(pivots: &[u8], key: &[u8], value: &mut u64)
     ensures number { λ r. ⌜ r ≡ answerNumber (slotAnswer (cutoffForLeftAnswer (now (pivots .entry)) (now (key .entry)))) ⌝ }
     ensures value { λ r. ⌜ now (value .exit) ≡ told (slotAnswer (cutoffForLeftAnswer (now (pivots .entry)) (now (key .entry)))) (now (value .entry)) ⌝ }
 {
-    tell(slot_answer(routing::cutoff_for_left(pivots, key)), value)
+    tell(
+        routing::slot_answer(routing::cutoff_for_left(pivots, key)),
+        value,
+    )
 }
 
 #[no_mangle]
@@ -113,5 +115,8 @@ pub extern "C" fn jd_cutoff_for_right(pivots: &[u8], key: &[u8], value: &mut u64
     ensures number { λ r. ⌜ r ≡ answerNumber (slotAnswer (cutoffForRightAnswer (now (pivots .entry)) (now (key .entry)))) ⌝ }
     ensures value { λ r. ⌜ now (value .exit) ≡ told (slotAnswer (cutoffForRightAnswer (now (pivots .entry)) (now (key .entry)))) (now (value .entry)) ⌝ }
 {
-    tell(slot_answer(routing::cutoff_for_right(pivots, key)), value)
+    tell(
+        routing::slot_answer(routing::cutoff_for_right(pivots, key)),
+        value,
+    )
 }

@@ -2,9 +2,8 @@
 use model::Answer;
 use model::Compared;
 use model::Decided;
-use model::Routed;
 ghost use mathlib.Core.Path.{_≡_};
-ghost use Rattle.model.specs.Refusals.{answerNumber, comparedNumber, told, toldOrder, decidedAnswer, slotAnswer};
+ghost use Rattle.model.specs.Refusals.{answerNumber, comparedNumber, told, toldOrder, decidedAnswer};
 
 // An answer, told by a number and through a pointer.
 pub fn tell(a: Answer, value: &mut u64) -> u32
@@ -51,15 +50,5 @@ pub fn decided_answer(d: Decided) -> Answer
         Decided::Yes => Answer::Value(1),
         Decided::No => Answer::Value(0),
         Decided::Refused(r) => Answer::Refused(r),
-    }
-}
-
-// A slot as its number.
-pub fn slot_answer(s: Routed) -> Answer
-    ensures { λ r. ⌜ r ≡ slotAnswer s ⌝ }
-{
-    match s {
-        Routed::Slot(n) => Answer::Value(n),
-        Routed::Refused(r) => Answer::Refused(r),
     }
 }

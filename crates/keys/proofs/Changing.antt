@@ -6,11 +6,11 @@ use Prim.Native.Nat.{ℕ, _+_, _-_, _≤_, _<_}
 use native.Mathlib.Omega.{arith}
 use borrow.Author.Tests.{lt-ltb, le-ltb, not-false}
 use lib.Dec.{ltb}
-use lib.ListN.{length, take, drop}
+use lib.ListN.{length, take, drop, length-append, length-drop}
 use Rattle.model.specs.Key.{IsPrefix, changePrefix, tooLong}
-use Rattle.model.specs.Refusals.{over}
+use Rattle.model.specs.Refusals.{over, into}
 use Rattle.model.specs.Calls.{noRoom}
-use Rattle.model.proofs.Lists.{rest}
+use Rattle.model.proofs.Lists.{rest, into-over}
 use Rattle.model.proofs.Prefix.{length-change, prefix-length}
 
 -- a prefix that was found ends inside the key
@@ -34,8 +34,10 @@ module _ (p q k : List ℕ) (n : ℕ) (e : n ≡ length q + (length k - length p
   pub changed-in : (d : List ℕ) → n ≤ length d → noRoom (length (changePrefix p q k)) d ≡ false
   changed-in d h = rw (← changed-length) (le-ltb (length d) n h)
 
-pub changed-written : (p q k d w : List ℕ) → w ≡ over (q ++ take (length k - length p) (drop (length p) k)) d → w ≡ over (changePrefix p q k) d
-unfolding changePrefix
-changed-written p q k d w e = rw rest at e
+  pub changed-written : (d w : List ℕ) → n ≤ length d → w ≡ into (q ++ take (length k - length p) (drop (length p) k)) d
+      → w ≡ over (changePrefix p q k) d
+  unfolding changePrefix
+  changed-written d w h f =
+      f ∙ rw rest (into-over (q ++ drop (length p) k) d (omega (arith, length-append q (drop (length p) k), length-drop (length p) k)))
 
 pub ruleset changing = (changed-length, changed-long, changed-short, changed-out, changed-in, changed-written)

@@ -3,21 +3,9 @@ use model::Answer;
 use model::MAX_LEN;
 use model::Refusal;
 ghost use mathlib.Core.Path.{_≡_};
-ghost use mathlib.Core.List.{_++_};
 ghost use Prim.Native.Nat.{_+_, _-_, _≤_};
 ghost use lib.ListN.{length};
-ghost use Rattle.model.specs.Refusals.{over};
 ghost use Rattle.model.specs.Calls.{changePrefixAnswer, changePrefixLeaves};
-
-// Writes a and then b to the head of dest.
-fn join(a: &[u8], b: &[u8], dest: &mut [u8])
-    requires { ⌜ length (now a) + length (now b) ≤ length (now dest) ⌝ }
-    ensures { λ _. ⌜ now (dest .exit) ≡ over (now (a .entry) ++ now (b .entry)) (now (dest .entry)) ⌝ }
-{
-    let n = a.len();
-    records::copy(a, dest);
-    records::copy(b, &mut dest[n..]);
-}
 
 // The length of a key whose prefix is changed.
 fn changed_len(key: &[u8], old: &[u8], new: &[u8]) -> usize
@@ -57,6 +45,6 @@ pub fn change_prefix(key: &[u8], old: &[u8], new: &[u8], dest: &mut [u8]) -> Ans
         return Answer::Refused(Refusal::NoRoom);
     }
     let p = old.len();
-    join(new, &key[p..], dest);
+    records::join(new, &key[p..], dest);
     Answer::Value(n)
 }

@@ -14,7 +14,7 @@ use Rattle.model.specs.declared.Compared.{Compared}
 use Rattle.model.specs.declared.Compared.the-variants as compared
 use Rattle.model.specs.declared.Routed.{Routed}
 use Rattle.model.specs.declared.Routed.the-variants as routed
-use Rattle.model.specs.Refusals.{Cause, _⇒_, outcome, first, answer}
+use Rattle.model.specs.Refusals.{Cause, _⇒_, outcome, first, answer, routing, slotAnswer}
 
 module _ {A : Type 0} (f : Refusal → A) (v x : A) where
   -- a cause that applies makes the outcome
@@ -153,6 +153,41 @@ module _ (cs : List Cause) (n : ℕ) (a : Answer) (e : a ≡ answer cs n) where
     pub call-passed-first : (ds : List Cause) (m : ℕ) → a ≡ answers.Value m → x ≡ outcome f ds v → x ≡ outcome f (cs ++ ds) v
     call-passed-first ds m h q = after f v x cs ds (accepted m h) q
 
+-- ---- the same of a call that answers a slot
+
+module _ (s : Routed) where
+  pub slot-value : (n : ℕ) → s ≡ routed.Slot n → answers.Value n ≡ slotAnswer s
+  unfolding slotAnswer
+  slot-value n e = rw e
+
+  pub slot-refusal : (r : Refusal) → s ≡ routed.Refused r → answers.Refused r ≡ slotAnswer s
+  unfolding slotAnswer
+  slot-refusal r e = rw e
+
+-- its slot, or its refusal, is the answer of the same causes
+as-answer : (cs : List Cause) (n : ℕ) → slotAnswer (routing cs n) ≡ answer cs n
+unfolding outcome slotAnswer
+as-answer [] n = refl
+as-answer ((true ⇒ r) ∷ cs) n = refl
+as-answer ((false ⇒ r) ∷ cs) n = as-answer cs n
+
+module _ (cs : List Cause) (n : ℕ) (s : Routed) (e : s ≡ routing cs n) where
+  answers-so : slotAnswer s ≡ answer cs n
+  answers-so = rw e (as-answer cs n)
+
+  pub slot-accepted : (m : ℕ) → s ≡ routed.Slot m → first cs ≡ none
+  slot-accepted m h = accepted cs n (slotAnswer s) answers-so m (sym (slot-value s m h))
+
+  pub slot-is : (m : ℕ) → s ≡ routed.Slot m → m ≡ n
+  slot-is m h = value-is cs n (slotAnswer s) answers-so m (sym (slot-value s m h))
+
+  module _ {A : Type 0} (f : Refusal → A) (v x : A) (ds : List Cause) where
+    pub slot-handed-on : (r : Refusal) → s ≡ routed.Refused r → x ≡ f r → x ≡ outcome f (cs ++ ds) v
+    slot-handed-on r h q = handed-on-first cs n (slotAnswer s) answers-so f v x ds r (sym (slot-refusal s r h)) q
+
+    pub slot-passed : (m : ℕ) → s ≡ routed.Slot m → x ≡ outcome f ds v → x ≡ outcome f (cs ++ ds) v
+    slot-passed m h q = after f v x cs ds (slot-accepted m h) q
+
 -- ---- whether a cause applies, by the tests of the code
 
 pub or-left : (a b : Bool) → a ≡ true → (a || b) ≡ true
@@ -184,3 +219,6 @@ pub ruleset answering = (refl, value-done, order-done, slot-done, here, later, d
 
 -- an outcome after a call whose answer is handed on or passed
 pub ruleset handing-on = (handed-on, handed-on-first, call-passed, call-passed-first, answering)
+
+-- and after one whose slot or refusal is
+pub ruleset slot-handing-on = (slot-handed-on, slot-passed, answering)

@@ -13,10 +13,9 @@ use Rattle.model.specs.Key.{Key, maxLen, IsPrefix, changePrefix}
 use Rattle.model.specs.Order.{Element, lt, LargestLte}
 use Rattle.model.specs.Record.{Edge, edge, noEdge}
 use Rattle.model.specs.RangePrefix.{PivotLcp}
-use Rattle.model.specs.Tables.{PivotTable, EdgeTable, pivotAt, edgeAt, edgeFits, edgesFit, WFEdges}
+use Rattle.model.specs.Tables.{PivotTable, EdgeTable, shortEdge, pivotAt, edgeAt, edgeFits, edgesFit, WFEdges}
 use Rattle.model.specs.Cuts.{cutEdge, edgeWithin, strictlyBetween, plainEdgesFrom}
 use Rattle.model.proofs.Prefix.{both, beyond-trans, length-change}
-use Rattle.model.proofs.Record.{shortEdge}
 use Rattle.model.proofs.RangePrefix.{BytesE, narrows}
 use Rattle.model.proofs.Between.{BytesT, bytes-at, Within}
 use Rattle.model.proofs.Slots.{Inside, inside-within, inside-left}
@@ -146,7 +145,7 @@ module _ (pt : PivotTable) (et : EdgeTable) where
         (λ i h. f i (omega arith) ∙ sym (cut-edge i (omega arith)))
 
 -- the prefix of a slot begins that of each range in it
-inside-narrows : {pt : PivotTable} {i : ℕ} {x y : Element} → Inside pt i x y → BytesE x → BytesE y → IsPrefix (slotPrefix pt i) (PivotLcp x y) ≡ true
+pub inside-narrows : {pt : PivotTable} {i : ℕ} {x y : Element} → Inside pt i x y → BytesE x → BytesE y → IsPrefix (slotPrefix pt i) (PivotLcp x y) ≡ true
 inside-narrows {pt} {i} {x} {y} w f g = narrows (pivotAt pt i) (pivotAt pt (i + 1)) x y (w .from) (w .rises) (w .upto) f g
 
 module _ {pt : PivotTable} {a b : Element} (w : Spans pt a b) (t : BytesT pt) (f : BytesE a) (g : BytesE b) where

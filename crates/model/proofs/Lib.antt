@@ -17,6 +17,7 @@ pub mod Ranges
 pub mod Cuts
 pub mod CutEdges
 pub mod SplitEdges
+pub mod CutBytes
 pub mod Preserved
 pub mod PlainCut
 pub mod Rows

@@ -9,7 +9,7 @@ use native.Mathlib.Omega.{arith}
 use lib.Dec.{leb}
 use borrow.Author.Tests.{leb-true, leb-false}
 use lib.ListN.{length, take, drop, getD, length-append, length-drop, take-append-drop, drop-of-length-le}
-use lib.Seq.{drop-cons, drop-drop, take-all, take-length, take-append-seam, drop-append-seam}
+use lib.Seq.{drop-cons, drop-drop, take-all, take-length, length-take-le, take-append-seam, drop-append-seam, take-append-le, take-append-add}
 use borrow.Rule.Slice.PartMut.{putMid}
 use Rattle.model.specs.Key.{Key, maxLen}
 use Rattle.model.specs.Record.{clipped}
@@ -80,13 +80,48 @@ drop-over : (a d : List ℕ) → drop (length a) (over a d) ≡ drop (length a) 
 unfolding over
 drop-over a d = drop-append-seam a (drop (length a) d)
 
+-- what is longer than the room fills it
+fills : (a d : List ℕ) → length d ≤ length a → into a d ≡ take (length d) a
+unfolding into over
+fills a d h =
+    let e : length d ≤ length d = omega arith in
+    rw (length-take-le (length d) a h, drop-of-length-le d e, append-nil)
+
+-- what is written after a, as far as there is room
+after-first : (a b d : List ℕ) → length a ≤ length d → a ++ into b (drop (length a) d) ≡ into (a ++ b) d
+unfolding into
+after-first a b d h =
+    let e : length d ≡ length a + (length d - length a) = omega arith in
+    let f : take (length d) (a ++ b) ≡ a ++ take (length d - length a) b =
+    rw (← e) at (take-append-add a b (length d - length a))
+    in
+    rw (f, length-drop) (over-append a (take (length d - length a) b) d)
+
+-- nothing is written where there is no room
+into-none : (a : List ℕ) → into a [] ≡ []
+unfolding into over
+into-none a = refl
+
 -- a is written, and b to what is lent on after it
-pub written-on : (n : ℕ) (a b d v w : List ℕ) → n ≡ length a → length a + length b ≤ length d → v ≡ into a d
-    → w ≡ into b (take (length v - n) (drop n v)) → putMid n (length v - n) v w ≡ over (a ++ b) d
-written-on n a b d v w m h e g =
-    let p : v ≡ over a d = e ∙ into-over a d (omega arith) in
-    let q : length b ≤ length (drop (length a) d) = omega (arith, length-drop (length a) d) in
-    rw (lent-on, g, rest, p, m, take-over, drop-over, into-over b (drop (length a) d) q, over-append)
+pub written-on : (n : ℕ) (a b d v w : List ℕ) → n ≡ min (length a) (length d) → v ≡ into a d
+    → w ≡ into b (take (length v - n) (drop n v)) → putMid n (length v - n) v w ≡ into (a ++ b) d
+written-on n a b d v w m e g = ⊎-elim room full (le-or-lt (length a) (length d))
+  where
+    room : length a ≤ length d → putMid n (length v - n) v w ≡ into (a ++ b) d
+    room h =
+        let k : n ≡ length a = omega arith in
+        rw (lent-on, g, rest, e, into-over a d h, k, take-over, drop-over) (after-first a b d h)
+
+    full : length d < length a → putMid n (length v - n) v w ≡ into (a ++ b) d
+    full h =
+        let k : n ≡ length d = omega arith in
+        let u : v ≡ take (length d) a = e ∙ fills a d (omega arith) in
+        let z : length v ≡ length d = rw u (length-take-le (length d) a (omega arith)) in
+        let i : length v ≤ n = omega arith in
+        let q : drop n v ≡ [] = drop-of-length-le v i in
+        let y : w ≡ [] = g ∙ rw (rest, q) (into-none b) in
+        rw (lent-on, y, append-nil, take-all n v (omega arith), u, fills (a ++ b) d (omega (arith, length-append a b)))
+        (sym (take-append-le (length d) a b (omega arith)))
 
 -- a key of at most 64 bytes has room in a record
 pub clipped-all : (k : Key) → length k ≤ maxLen → clipped k ≡ k
@@ -113,3 +148,10 @@ module _ {A : Type 0} (test : A → Bool) where
   pub all-parts : (n : ℕ) (xs : List A) → all test xs ≡ true → (all test (take n xs) ≡ true) × (all test (drop n xs) ≡ true)
   all-parts n xs h =
       both (all test (take n xs)) (all test (drop n xs)) (sym (all-append (take n xs) (drop n xs)) ∙ rw (take-append-drop n xs) h)
+
+-- where what passes one test has images that pass another, all images of a list that passes pass
+pub all-map : {A B : Type 0} (test : A → Bool) (f : A → B) (then : B → Bool) → ((x : A) → test x ≡ true → then (f x) ≡ true)
+    → (xs : List A) → all test xs ≡ true → all then (map f xs) ≡ true
+unfolding all
+all-map test f then g [] h = refl
+all-map test f then g (x ∷ xs) h = let b = both (test x) (all test xs) h in rw (g x (b .0)) (all-map test f then g xs (b .1))

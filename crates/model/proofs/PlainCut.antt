@@ -7,12 +7,11 @@ use borrow.Author.Tests.{le-leb}
 use lib.ListN.{length}
 use Rattle.model.specs.Key.{Key, Bytes, maxLen}
 use Rattle.model.specs.Order.{key, lte, lt}
-use Rattle.model.specs.Tables.{PivotTable, EdgeTable, NumBuckets, pivotAt, lastPivot, all, WFPivots, WFEdges}
+use Rattle.model.specs.Tables.{PivotTable, EdgeTable, NumBuckets, pivotAt, lastPivot, all, shortEdge, WFPivots, WFEdges}
 use Rattle.model.specs.Tables.{BoundedKey, ValidLeftCutOffKey, CutoffForLeft}
 use Rattle.model.specs.Cuts.{SplitLeft, SplitRight, plainCut, SplitLeftEdges, SplitRightEdges, plainCutEdges}
 use Rattle.model.specs.Translation.{TranslateKey}
 use Rattle.model.proofs.Order.{lte-refl, lt-trans-lte, lte-trans-lt}
-use Rattle.model.proofs.Record.{shortEdge}
 use Rattle.model.proofs.Between.{BytesT, bytes-at, Within}
 use Rattle.model.proofs.Slots.{Table, wf-says, says-wf}
 use Rattle.model.proofs.Ranges.{cutTo, Spans, cut-cut, cut-bounded, cut-bytes, cut-wf}

@@ -19,7 +19,7 @@ use Rattle.model.proofs.CutEdges.{change-twice, edges-say, cutEdgesTo, 
 use Rattle.model.proofs.SplitEdges.{left-edges-cut, right-edges-cut}
 
 -- the prefix of a range of elements begins each of its keys
-begins : (l r : Element) (k : Key) → Bytes k → lte l (key k) ≡ true → lt (key k) r ≡ true → IsPrefix (PivotLcp l r) k ≡ true
+pub begins : (l r : Element) (k : Key) → Bytes k → lte l (key k) ≡ true → lt (key k) r ≡ true → IsPrefix (PivotLcp l r) k ≡ true
 unfolding PivotLcp IsPrefix
 begins (key l) r k b h f = shared l r k b (rw h f)
 begins max r k b h f = refl

@@ -15,13 +15,8 @@ use Rattle.model.specs.Order.{Element, key, max}
 use Rattle.model.specs.Record.{Edge, edge, noEdge, recordSize, noEdgeMark, maxMark, zeros, recordOf, encode, encodeEdge}
 use Rattle.model.specs.Record.{lengthField, allZero, keyLength, fieldReading, reading, elementReading, edgeReading}
 use Rattle.model.specs.Record.{keyBytes, element, edgeOf}
-use Rattle.model.specs.Tables.{shortElement}
+use Rattle.model.specs.Tables.{shortElement, shortEdge}
 use Rattle.model.proofs.Prefix.{both}
-
--- an edge whose key has at most 64 bytes
-abbrev pub shortEdge : Edge → Bool
-shortEdge (edge q) = leb (length q) maxLen
-shortEdge noEdge = true
 
 -- ---- zeros
 

@@ -1,7 +1,7 @@
 -- Several records.
 use mathlib.Core.Path.{_≡_, refl, ap}
 use mathlib.Core.Bool.{Bool, true, _&&_}
-use mathlib.Core.List.{List, [], _∷_, map}
+use mathlib.Core.List.{List, [], _∷_, _++_, map, append-assoc}
 use Prim.Native.Nat.{ℕ, zero, suc, _+_, _*_, _/_, _≤_, _<_}
 use native.Mathlib.Omega.{arith}
 use native.Mathlib.Nat.{mul-div-cancel, zero-mul}
@@ -13,13 +13,21 @@ use Rattle.model.specs.Key.{Bytes, maxLen}
 use Rattle.model.specs.Order.{Element}
 use Rattle.model.specs.Record.{Edge, recordSize, reading, elementReading, edgeReading, recordOf, encode, encodeEdge, element, edgeOf}
 use Rattle.model.specs.Record.{pieces, joined, records, elements, edges, encodeAll, encodeEdges}
-use Rattle.model.specs.Tables.{all, shortElement}
+use Rattle.model.specs.Tables.{all, shortElement, shortEdge}
 use Rattle.model.specs.Bucket.{Entry, Bucket, numberSize, entrySize, entryOf, encodeEntry, entries, encodeBucket}
+use Rattle.model.proofs.Lists.{all-parts}
 use Rattle.model.proofs.Prefix.{both, bytes-take, bytes-drop}
-use Rattle.model.proofs.Record.{shortEdge, length-record, length-encode, length-encodeEdge, element-encode, edge-encode}
+use Rattle.model.proofs.Record.{length-record, length-encode, length-encodeEdge, element-encode, edge-encode}
 use Rattle.model.proofs.Record.{bytes-record, encode-element, encode-edge}
 
 -- ---- values written one after the other, each in s bytes
+
+-- what is written of values and then of others is written of all of them
+pub joined-append : {A : Type 0} (write : A → List ℕ) (xs ys : List A)
+    → joined (map write (xs ++ ys)) ≡ joined (map write xs) ++ joined (map write ys)
+unfolding joined
+joined-append write [] ys = refl
+joined-append write (x ∷ xs) ys = rw (joined-append write xs ys, append-assoc)
 
 module _ {A : Type 0} (s : ℕ) (ok : A → Bool) (write : A → List ℕ) (size : (x : A) → ok x ≡ true → length (write x) ≡ s) where
   -- equal pieces have together their number times their size
@@ -29,6 +37,23 @@ module _ {A : Type 0} (s : ℕ) (ok : A → Bool) (write : A → List ℕ) (size
   length-joined (x ∷ xs) h =
       let p = both (ok x) (all ok xs) h in
       rw (length-append, size x (p .0), length-joined xs (p .1)) (omega arith)
+
+  module _ (n : ℕ) (xs : List A) (m : n ≤ length xs) (h : all ok xs ≡ true) where
+    -- all values are the first n and those that follow them
+    seam : joined (map write xs) ≡ joined (map write (take n xs)) ++ joined (map write (drop n xs))
+    seam = rw (← joined-append write (take n xs) (drop n xs), take-append-drop n xs)
+
+    -- the first n have n pieces
+    size-first : length (joined (map write (take n xs))) ≡ n * s
+    size-first = rw (length-joined (take n xs) (all-parts ok n xs h .0), length-take-le n xs m)
+
+    -- the first values are written in the first pieces
+    pub joined-take : joined (map write (take n xs)) ≡ take (n * s) (joined (map write xs))
+    joined-take = rw (seam, take-at (joined (map write (take n xs))) (joined (map write (drop n xs))) (n * s) size-first)
+
+    -- and those that follow them in the rest
+    pub joined-drop : joined (map write (drop n xs)) ≡ drop (n * s) (joined (map write xs))
+    joined-drop = rw (seam, drop-at (joined (map write (take n xs))) (joined (map write (drop n xs))) (n * s) size-first)
 
   module _ (read : List ℕ → A) (back : (x : A) → ok x ≡ true → read (write x) ≡ x) where
     read-first : (xs : List A) → all ok xs ≡ true → map read (pieces s (length xs) (joined (map write xs))) ≡ xs

@@ -12,11 +12,10 @@ use lib.Seq.{length-take-le, take-suc, drop-cons, getD-take, getD-drop, getD-at}
 use Rattle.model.specs.Key.{Key, Bytes}
 use Rattle.model.specs.Order.{key, max}
 use Rattle.model.specs.Record.{Edge, noEdge}
-use Rattle.model.specs.Tables.{PivotTable, EdgeTable, NumBuckets, pivotAt, edgeAt, lastPivot, all, WFPivots, WFEdges}
+use Rattle.model.specs.Tables.{PivotTable, EdgeTable, NumBuckets, pivotAt, edgeAt, lastPivot, all, shortEdge, WFPivots, WFEdges}
 use Rattle.model.specs.Tables.{BoundedKey, ValidLeftCutOffKey, CutoffForLeft, CutoffForRight}
 use Rattle.model.specs.Cuts.{SplitLeft, SplitRight, cutEdge, edgeWithin, SplitLeftEdges, SplitRightEdges}
 use Rattle.model.proofs.Lists.{le-or-lt, all-at, all-append, all-parts}
-use Rattle.model.proofs.Record.{shortEdge}
 use Rattle.model.proofs.Between.{BytesT, bytes-at}
 use Rattle.model.proofs.Slots.{Table, wf-says, inside-left, slot-itself}
 use Rattle.model.proofs.Cuts.{left-spans, left-slot, left-is-cut, left-length, left-at, left-end}

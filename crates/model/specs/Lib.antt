@@ -5,11 +5,14 @@ pub mod RangePrefix
 pub mod UpperBound
 pub mod Tables
 pub mod Cuts
+pub mod Sides
 pub mod Translation
 pub mod Pivots
 pub mod Bucket
 pub mod Refusals
 pub mod Calls
 pub mod TableCalls
+pub mod CutCalls
+pub mod TwoOrders
 pub mod ShelfList
 pub mod Rows

@@ -47,6 +47,11 @@ abbrev pub shortElement : Element → Bool
 shortElement (key k) = leb (length k) maxLen
 shortElement max = true
 
+-- an edge of at most 64 bytes
+abbrev pub shortEdge : Edge → Bool
+shortEdge (edge q) = leb (length q) maxLen
+shortEdge noEdge = true
+
 abbrev pub ElementsAreKeys : PivotTable → Bool
 ElementsAreKeys pt = all shortElement pt
 

@@ -13,6 +13,7 @@ pub use read::length_field;
 pub use read::read_record;
 pub use read::record_at;
 pub use write::copy;
+pub use write::join;
 pub use write::put_record;
 pub use write::record_of;
 pub use write::store;

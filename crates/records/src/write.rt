@@ -2,6 +2,7 @@
 use model::MAX_LEN;
 use model::RECORD_SIZE;
 ghost use mathlib.Core.Path.{_≡_};
+ghost use mathlib.Core.List.{_++_};
 ghost use Rattle.model.specs.Record.{recordOf, clipped};
 ghost use Rattle.model.specs.Refusals.{into};
 
@@ -15,6 +16,15 @@ pub fn copy(src: &[u8], dst: &mut [u8])
         dst[i] = src[i];
         i += 1;
     }
+}
+
+// Writes a and then b to the head of dst, as far as there is room.
+pub fn join(a: &[u8], b: &[u8], dst: &mut [u8])
+    ensures { λ _. ⌜ now (dst .exit) ≡ into (now (a .entry) ++ now (b .entry)) (now (dst .entry)) ⌝ }
+{
+    let n = scan::least(a.len(), dst.len());
+    copy(a, dst);
+    copy(b, &mut dst[n..]);
 }
 
 // The record with a given length field and the first 64 bytes of k. It is made in an array, which the

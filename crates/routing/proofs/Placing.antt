@@ -22,7 +22,7 @@ use Rattle.model.proofs.Causes.{here, later, slot-done}
 use Rattle.model.proofs.Places.{place-turn, place-all, place-most, bounded-place, valid-place}
 use Rattle.model.proofs.Routing.{wf-sorted, wf-count}
 use Rattle.model.proofs.TableBytes.{length-elements, element-at}
-use Rattle.routing.specs.Sides.{inside, slotFor}
+use Rattle.model.specs.Sides.{inside, cutoff}
 
 -- the pivots before the place i pass, by the last of them
 pub record Scan (p : List ℕ) (k : Key) (strict : Bool) (i : ℕ) : Type 0 where
@@ -56,8 +56,8 @@ module _ (p : List ℕ) (k : Key) (strict : Bool) where
 
   -- ---- the slot by the place
 
-  slot-is : (s : Bool) (pt : PivotTable) → slotFor s pt k ≡ lastPlace (passes s (key k)) pt - 1
-  unfolding Route LargestLte CutoffForLeft LargestLt
+  slot-is : (s : Bool) (pt : PivotTable) → cutoff s pt k ≡ lastPlace (passes s (key k)) pt - 1
+  unfolding Route LargestLte CutoffForLeft CutoffForRight LargestLt
   slot-is true pt = refl
   slot-is false pt = refl
 
@@ -70,17 +70,17 @@ module _ (p : List ℕ) (k : Key) (strict : Bool) where
     inside-by : inside strict (elements p) k ≡ (ltb 0 n && ltb n (length p / 66))
     inside-by = rw (inside-is strict (elements p) wf, ← e, length-elements p)
 
-    pub before-first : n ≡ 0 → Refused OutOfRange ≡ routing ((not (inside strict (elements p) k) ⇒ OutOfRange) ∷ []) (slotFor strict (elements p) k)
+    pub before-first : n ≡ 0 → Refused OutOfRange ≡ routing ((not (inside strict (elements p) k) ⇒ OutOfRange) ∷ []) (cutoff strict (elements p) k)
     before-first h = here Refused _ _ _ OutOfRange [] (rw (inside-by, h)) refl
 
-    pub past-last : n ≡ length p / 66 → Refused OutOfRange ≡ routing ((not (inside strict (elements p) k) ⇒ OutOfRange) ∷ []) (slotFor strict (elements p) k)
+    pub past-last : n ≡ length p / 66 → Refused OutOfRange ≡ routing ((not (inside strict (elements p) k) ⇒ OutOfRange) ∷ []) (cutoff strict (elements p) k)
     past-last h = here Refused _ _ _ OutOfRange [] (rw (inside-by, le-ltb n (length p / 66) (omega arith)) (no-more (ltb 0 n))) refl
       where
         no-more : (b : Bool) → not (b && false) ≡ true
         no-more true = refl
         no-more false = refl
 
-    pub between : (n ≡ 0 → ⊥) → (n ≡ length p / 66 → ⊥) → Slot (n - 1) ≡ routing ((not (inside strict (elements p) k) ⇒ OutOfRange) ∷ []) (slotFor strict (elements p) k)
+    pub between : (n ≡ 0 → ⊥) → (n ≡ length p / 66 → ⊥) → Slot (n - 1) ≡ routing ((not (inside strict (elements p) k) ⇒ OutOfRange) ∷ []) (cutoff strict (elements p) k)
     between h g =
         let m : n ≤ length p / 66 = rw (e, ← length-elements p) (place-most (passes strict (key k)) (elements p)) in
         later Refused _ _ _ OutOfRange []

@@ -11,9 +11,10 @@ ghost use Rattle.model.specs.declared.Refusal.the-variants.{OutOfRange};
 ghost use Rattle.model.specs.Order.{key, passes, lastPlace};
 ghost use Rattle.model.specs.Record.{elements};
 ghost use Rattle.model.specs.Tables.{WFPivots};
-ghost use Rattle.model.specs.Refusals.{_⇒_, routing};
+ghost use Rattle.model.specs.Refusals.{_⇒_, routing, slotAnswer};
 ghost use Rattle.model.specs.TableCalls.{slotCauses, routeAnswer, cutoffForLeftAnswer, cutoffForRightAnswer};
-ghost use Rattle.routing.specs.Sides.{inside, slotFor};
+ghost use Rattle.model.specs.Sides.{inside, cutoff};
+ghost use Rattle.model.specs.CutCalls.{edgeSlotCauses};
 
 // How many pivots are not above the key or, where strict, below it: they stand first.
 fn place(pivots: &[u8], k: &[u8], strict: bool) -> usize
@@ -34,7 +35,7 @@ fn place(pivots: &[u8], k: &[u8], strict: bool) -> usize
 // The slot that ends the pivots which pass, where there is one.
 fn slot_of(pivots: &[u8], k: &[u8], strict: bool) -> Routed
     requires { ⌜ WFPivots (elements (now pivots)) ≡ true ⌝ }
-    ensures { λ r. ⌜ r ≡ routing ((not (inside strict (elements (now (pivots .entry))) (now (k .entry))) ⇒ OutOfRange) ∷ []) (slotFor strict (elements (now (pivots .entry))) (now (k .entry))) ⌝ }
+    ensures { λ r. ⌜ r ≡ routing ((not (inside strict (elements (now (pivots .entry))) (now (k .entry))) ⇒ OutOfRange) ∷ []) (cutoff strict (elements (now (pivots .entry))) (now (k .entry))) ⌝ }
 {
     let n = place(pivots, k, strict);
     if n == 0 {
@@ -48,10 +49,20 @@ fn slot_of(pivots: &[u8], k: &[u8], strict: bool) -> Routed
 
 // Causes 1 to 3 and 5; else the slot.
 fn find_slot(pivots: &[u8], k: &[u8], strict: bool) -> Routed
-    ensures { λ r. ⌜ r ≡ routing (slotCauses (now (pivots .entry)) (now (k .entry)) (inside strict (elements (now (pivots .entry))) (now (k .entry)))) (slotFor strict (elements (now (pivots .entry))) (now (k .entry))) ⌝ }
+    ensures { λ r. ⌜ r ≡ routing (slotCauses (now (pivots .entry)) (now (k .entry)) (inside strict (elements (now (pivots .entry))) (now (k .entry)))) (cutoff strict (elements (now (pivots .entry))) (now (k .entry))) ⌝ }
 {
     match table_checks::check_pivots(pivots, false, MAX_LEN < k.len()) {
         Answer::Value(_) => slot_of(pivots, k, strict),
+        Answer::Refused(r) => Routed::Refused(r),
+    }
+}
+
+// Causes 1 to 5 of a table with its edges; else the slot in which a left or a right cut at the key falls. The right one is the key's own.
+pub fn slot_with_edges(pivots: &[u8], edges: &[u8], k: &[u8], left: bool) -> Routed
+    ensures { λ r. ⌜ r ≡ routing (edgeSlotCauses (now (pivots .entry)) (now (edges .entry)) (now (k .entry)) (inside left (elements (now (pivots .entry))) (now (k .entry)))) (cutoff left (elements (now (pivots .entry))) (now (k .entry))) ⌝ }
+{
+    match table_checks::check_table(pivots, edges, false, MAX_LEN < k.len()) {
+        Answer::Value(_) => slot_of(pivots, k, left),
         Answer::Refused(r) => Routed::Refused(r),
     }
 }
@@ -76,4 +87,14 @@ pub fn cutoff_for_right(pivots: &[u8], key: &[u8]) -> Routed
     ensures { λ r. ⌜ r ≡ cutoffForRightAnswer (now (pivots .entry)) (now (key .entry)) ⌝ }
 {
     find_slot(pivots, key, false)
+}
+
+// A slot as its number.
+pub fn slot_answer(found: Routed) -> Answer
+    ensures { λ r. ⌜ r ≡ slotAnswer found ⌝ }
+{
+    match found {
+        Routed::Slot(n) => Answer::Value(n),
+        Routed::Refused(r) => Answer::Refused(r),
+    }
 }

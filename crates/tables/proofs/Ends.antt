@@ -25,7 +25,7 @@ use Rattle.model.proofs.Causes.{here, later, done, handed-on-first, call-passed
 use Rattle.model.proofs.Places.{within, bounded-within, valid-within}
 use Rattle.model.proofs.Routing.{wf-count}
 use Rattle.model.proofs.TableBytes.{length-elements, element-at}
-use Rattle.routing.specs.Sides.{inside}
+use Rattle.model.specs.Sides.{inside}
 
 pub no-pivot : (p a : List ℕ) → length p / 66 ≡ 0 → a ≡ recordAt p 0 → a ≡ recordAt p (length p / 66 - 1)
 no-pivot p a h e = let q : length p / 66 - 1 ≡ 0 = omega arith in rw q e

@@ -3,13 +3,13 @@ use mathlib.Core.Path.{_≡_, refl, sym, ap, _∙_}
 use mathlib.Core.List.{List, [], _∷_, _++_, append-nil}
 use Prim.Native.Nat.{ℕ, _+_, _-_, _≤_, _<_}
 use native.Mathlib.Omega.{arith}
-use lib.ListN.{length, take, drop}
+use lib.ListN.{length, take, drop, length-append}
 use borrow.Rule.Slice.PartMut.{putMid}
 use Rattle.model.specs.Record.{recordOf, clipped, encode, joined, encodeAll}
 use Rattle.model.specs.Order.{key, max}
 use Rattle.model.specs.Tables.{InitPivotTable}
 use Rattle.model.specs.Refusals.{over, into}
-use Rattle.model.proofs.Lists.{written-on}
+use Rattle.model.proofs.Lists.{written-on, into-over}
 use Rattle.model.proofs.Record.{length-record}
 
 -- one record, and in the rest the other
@@ -19,4 +19,6 @@ unfolding encodeAll joined encode InitPivotTable clipped
 both-written d v w h e g =
     let l = length-record 0 [] (omega arith) in
     let m = length-record 65535 [] (omega arith) in
-    rw append-nil (written-on 66 (recordOf 0 []) (recordOf 65535 []) d v w (sym l) (omega arith) e g)
+    rw append-nil
+    (written-on 66 (recordOf 0 []) (recordOf 65535 []) d v w (omega (arith, l)) e g
+    ∙ into-over (recordOf 0 [] ++ recordOf 65535 []) d (omega (arith, length-append (recordOf 0 []) (recordOf 65535 []), l, m)))

@@ -15,7 +15,7 @@ ghost use Rattle.model.specs.Record.{recordSize, recordAt, element, elements};
 ghost use Rattle.model.specs.Tables.{WFPivots, PivotInsertable};
 ghost use Rattle.model.specs.Refusals.{decision};
 ghost use Rattle.model.specs.TableCalls.{keyCauses, boundedKeyAnswer, validLeftCutOffKeyAnswer, pivotInsertableAnswer};
-ghost use Rattle.routing.specs.Sides.{inside};
+ghost use Rattle.model.specs.Sides.{inside};
 
 // Whether the first pivot passes for the key, and the last does not.
 fn within(pivots: &[u8], k: &[u8], strict: bool) -> bool

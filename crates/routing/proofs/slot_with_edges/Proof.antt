@@ -1,0 +1,31 @@
+-- `routing::slot_with_edges` meets its contract.
+use Rattle.model.proofs.Causes.{handing-on}
+use Rattle.model.proofs.TableBytes.{table-checked-wf}
+use borrow.Author.Needs.{needs}
+use Rattle.routing.proofs.slot_with_edges.Statement.{statement}
+use Rattle.routing.proofs.slot_with_edges.Tie as tie
+
+ruleset rules = (needs, handing-on, table-checked-wf)
+
+check-table-requires : tie.Need-check-table-requires
+check-table-requires c κs = search rules
+
+enum-told : tie.Need-enum-told
+enum-told c = search rules
+
+slot-of-requires : tie.Need-slot-of-requires
+slot-of-requires c κs = search rules
+
+enum-known-r : tie.Need-enum-known-r
+enum-known-r c = search rules
+
+returns : tie.Need-returns
+returns c = search rules
+
+returns-2 : tie.Need-returns-2
+returns-2 c = search rules
+
+pub slot-with-edges-spec : {M : Type 1} → statement M
+slot-with-edges-spec =
+    tie.close
+    (tie.spec check-table-requires enum-told slot-of-requires enum-known-r returns returns-2)
