@@ -6,7 +6,7 @@ use mathlib.Core.Option.{Option, none, some}
 use Prim.Native.Nat.{ℕ}
 use lib.IntN.{ℤ}
 use native.Mathlib.Omega.{arith}
-use borrow.Author.Tests.{lt-ltb, le-ltb, le-leb, lt-leb, eq-eqb, ne-eqb}
+use borrow.Author.Tests.{lt-ltb, le-ltb, eq-eqb, ne-eqb}
 use Rattle.model.specs.declared.Refusal.{Refusal}
 use Rattle.model.specs.declared.Answer.{Answer}
 use Rattle.model.specs.declared.Answer.the-variants as answers
@@ -77,6 +77,19 @@ module _ {A : Type 0} (f : Refusal → A) (v x : A) (cs : List Cause) where
   -- and so is a whole list
   pub passed : first cs ≡ none → x ≡ v → x ≡ outcome f cs v
   passed h e = rw (whole f v cs, h) e
+
+-- what follows two lists with the same first cause has the same outcome
+pub followed : {A : Type 0} (f : Refusal → A) (v : A) (cs cs′ ds : List Cause) → first cs ≡ first cs′
+    → outcome f (cs ++ ds) v ≡ outcome f (cs′ ++ ds) v
+followed f v cs cs′ ds h = rw (in-turn f v cs ds, in-turn f v cs′ ds, h)
+
+-- where the outcome is no refusal, no cause applies
+pub unrefused : {A : Type 0} (f : Refusal → A) (v : A) (cs : List Cause) → ((r : Refusal) → outcome f cs v ≡ f r → ⊥) → first cs ≡ none
+unrefused f v cs h = go (first cs) refl
+  where
+    go : (o : Option Refusal) → first cs ≡ o → o ≡ none
+    go none e = refl
+    go (some r) e = absurd (h r (sym (refused-by f v (f r) cs r e refl)))
 
 -- where no cause applies, the first does not
 pub none-here : (b : Bool) (r : Refusal) (cs : List Cause) → first ((b ⇒ r) ∷ cs) ≡ none → b ≡ false

@@ -1,15 +1,15 @@
 -- The order of two keys by their common run.
-use mathlib.Core.Path.{_≡_, refl, sym, ap, _∙_}
-use mathlib.Core.Bool.{Bool, true, false, cond, not}
-use mathlib.Core.List.{List, [], _∷_}
-use Prim.Native.Nat.{ℕ, _+_, _≤_, _<_}
+use mathlib.Core.Path.{_≡_, refl, sym}
+use mathlib.Core.Bool.{Bool, true, false, cond}
+use mathlib.Core.List.{[], _∷_}
+use Prim.Native.Nat.{ℕ, _≤_, _<_}
 use native.Mathlib.Omega.{arith}
 use borrow.Author.Tests.{eqb-true, eqb-false}
 use lib.Dec.{eqb}
-use lib.IntN.{ℤ, pos, negsuc}
+use lib.IntN.{pos, negsuc}
 use lib.ListN.{length, drop, getD, drop-of-length-le}
 use Rattle.model.specs.Key.{Key, commonRun}
-use Rattle.model.specs.Order.{Element, key, max, lteKey, lte, lt, cmp}
+use Rattle.model.specs.Order.{key, lteKey, lte, cmp}
 use Rattle.model.proofs.Lists.{drop-step}
 use Rattle.model.proofs.Order.{lteKey-same, lteKey-above, cmp-less, cmp-more, cmp-same, lte-antisym}
 use Rattle.model.proofs.Prefix.{common-comm}

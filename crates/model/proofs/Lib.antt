@@ -20,4 +20,11 @@ pub mod SplitEdges
 pub mod CutBytes
 pub mod Preserved
 pub mod PlainCut
+pub mod WrittenTables
+pub mod SplitSides
+pub mod Alike
+pub mod OneCut
+pub mod AcceptedCuts
+pub mod OneOrder
+pub mod TwoOrders
 pub mod Rows

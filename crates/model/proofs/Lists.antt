@@ -72,7 +72,8 @@ pub over-append : (a b d : List ℕ) → a ++ over b (drop (length a) d) ≡ ove
 unfolding over
 over-append a b d = rw (drop-drop, length-append, append-assoc)
 
-take-over : (a d : List ℕ) → take (length a) (over a d) ≡ a
+-- what is written is read back
+pub take-over : (a d : List ℕ) → take (length a) (over a d) ≡ a
 unfolding over
 take-over a d = take-append-seam a (drop (length a) d)
 

@@ -1,13 +1,13 @@
 -- Well-formed pivot tables: each bounded key lies in one slot, which is its route; the slot of a left cut-off; which keys a table bounds.
 use mathlib.Core.Path.{_≡_, refl, sym, ap, _∙_}
 use mathlib.Core.Bool.{Bool, true, false, not, _&&_, false≢true}
-use mathlib.Core.List.{List, [], _∷_}
-use Prim.Native.Nat.{ℕ, zero, suc, _+_, _-_, _≤_, _<_}
+use mathlib.Core.List.{[], _∷_}
+use Prim.Native.Nat.{ℕ, _+_, _-_, _≤_, _<_}
 use native.Mathlib.Nat.{le-refl}
 use native.Mathlib.Omega.{arith}
 use borrow.Author.Tests.{ltb-true, lt-ltb, le-ltb, leb-true, le-leb, not-false}
 use lib.Dec.{ltb, leb}
-use lib.ListN.{length, take, getD}
+use lib.ListN.{length, take}
 use Rattle.model.specs.Key.{Key}
 use Rattle.model.specs.Order.{Element, key, max, isKey, lteKey, lte, lt, same, passes, lastPlace, LargestLte, LargestLt}
 use Rattle.model.specs.RangePrefix.{InBetween}

@@ -1,17 +1,16 @@
 -- Tables that are well formed, and where in such a table a range or an element stands.
-use mathlib.Core.Path.{_≡_, refl, sym, ap, _∙_}
-use mathlib.Core.Bool.{Bool, true, false, not, _&&_, true≢false}
-use mathlib.Core.List.{[], _∷_}
+use mathlib.Core.Path.{_≡_, sym, ap, _∙_}
+use mathlib.Core.Bool.{Bool, true, false, not}
 use Prim.Native.Nat.{ℕ, _+_, _-_, _≤_, _<_}
 use native.Mathlib.Omega.{arith}
-use borrow.Author.Tests.{ltb-true, leb-true, le-leb, not-false}
-use lib.Dec.{ltb, leb}
+use borrow.Author.Tests.{ltb-true, not-false}
+use lib.Dec.{ltb}
 use lib.ListN.{length, take, drop}
-use Rattle.model.specs.Order.{Element, key, max, isKey, lte, lt, passes, lastPlace, LargestLte, LargestLt}
-use Rattle.model.specs.Tables.{PivotTable, minPivots, NumBuckets, pivotAt, lastPivot, all, ElementsAreKeys}
-use Rattle.model.specs.Tables.{risesFrom, IsStrictlySorted, WFPivots}
+use Rattle.model.specs.Order.{Element, max, lte, lt, passes, lastPlace, LargestLte, LargestLt}
+use Rattle.model.specs.Tables.{PivotTable, pivotAt, lastPivot, ElementsAreKeys}
+use Rattle.model.specs.Tables.{IsStrictlySorted, WFPivots}
 use Rattle.model.specs.Cuts.{strictlyBetween}
-use Rattle.model.proofs.Order.{lte-refl, lte-max, lte-trans, lt-false, false-lt, lt-trans-lte, lte-trans-lt}
+use Rattle.model.proofs.Order.{lte-refl, lte-trans, lt-false, false-lt, lt-trans-lte, lte-trans-lt}
 use Rattle.model.proofs.Prefix.{both}
 use Rattle.model.proofs.Places.{place-passes, place-after, place-turn, sorted-at, within, within-place}
 use Rattle.model.proofs.Between.{Within, between-slice}

@@ -1,36 +1,33 @@
 -- Tables by their bytes: the record at a place and what it stands for, and what is known of pivots and edges that have none of the causes 1 to 4.
 use mathlib.Core.Path.{_≡_, refl, _∙_}
-use mathlib.Core.Bool.{Bool, true, false, cond, not, _&&_, _||_, true≢false, false≢true}
+use mathlib.Core.Bool.{Bool, true, false, cond, not, _&&_, _||_, true≢false}
 use mathlib.Core.List.{List, [], _∷_, map}
-use mathlib.Core.Option.{none}
+use mathlib.Core.Option.{none, some}
 use Prim.Native.Nat.{ℕ, zero, suc, _+_, _*_, _/_, _%_, _≤_, _<_}
 use native.Mathlib.Omega.{arith}
-use borrow.Author.Tests.{eqb-true, ltb-false, leb-true, le-leb, not-false}
+use borrow.Author.Tests.{eqb-true, le-ltb, ltb-false, leb-true, not-false}
 use lib.Dec.{eqb, leb}
 use lib.ListN.{length, take, drop, length-map}
-use lib.Seq.{take-at, drop-at}
 use Rattle.model.specs.declared.Reading.{Reading}
 use Rattle.model.specs.declared.Reading.the-variants as reads
 use Rattle.model.specs.declared.Answer.{Answer}
 use Rattle.model.specs.declared.Answer.the-variants as answers
 use Rattle.model.specs.declared.Refusal.the-variants.{Shape, Malformed, Unsorted, EmptyPrefix}
 use Rattle.model.specs.Key.{Key, Bytes, isNil, maxLen, tooLong}
-use Rattle.model.specs.Order.{Element, key, max, lt}
-use Rattle.model.specs.Record.{recordSize, element, edgeOf, pieces, joined, records, recordAt, elements, edges, encode, encodeAll, encodeEdges}
+use Rattle.model.specs.Order.{key, max}
+use Rattle.model.specs.Record.{recordSize, element, edgeOf, pieces, records, recordAt, elements, edges, encodeAll, encodeEdges}
 use Rattle.model.specs.Record.{maxMark, lengthField, keyBytes, reading, keyReading, elementReading}
-use Rattle.model.specs.Tables.{PivotTable, minPivots, maxPivots, pivotAt, edgeAt, all, shortElement, shortEdge, IsStrictlySorted, WFPivots, WFEdges}
+use Rattle.model.specs.Tables.{minPivots, maxPivots, pivotAt, edgeAt, all, shortElement, shortEdge, IsStrictlySorted, WFPivots, WFEdges}
 use Rattle.model.specs.TableCalls.{notPivotCount, notEdgeCount, pivotsRead, edgesRead, edgesStand, pivotCauses, tableCauses}
 use Rattle.model.specs.Refusals.{outcome, first, answer}
 use Rattle.model.proofs.Between.{BytesT}
 use Rattle.model.proofs.Causes.{none-here, none-later, none-before, none-after, accepted}
 use Rattle.model.proofs.Lists.{getD-map, all-map}
-use Rattle.model.proofs.Order.{below-key}
-use Rattle.model.proofs.Places.{sorted-head, sorted-tail}
 use Rattle.model.proofs.Prefix.{both, bytes-take, bytes-drop}
 use Rattle.model.proofs.RangePrefix.{BytesE}
-use Rattle.model.proofs.Record.{short-element, short-edge, reading-key, reading-max, length-encode}
-use Rattle.model.proofs.Records.{length-pieces, length-encodeAll, elements-encodeAll, encodeAll-elements, encodeEdges-edges}
-use Rattle.model.proofs.Routing.{wf-of, wf-sorted, wf-count, wf-all-short}
+use Rattle.model.proofs.Record.{short-element, short-edge}
+use Rattle.model.proofs.Records.{length-pieces, encodeAll-elements, encodeEdges-edges}
+use Rattle.model.proofs.Routing.{wf-of}
 
 module _ (p : List ℕ) where
   -- the count of records, of pivots and of edges is the slice's length over 66
@@ -248,55 +245,20 @@ pub table-checked-wf : (shape wrong : Bool) (p e : List ℕ) (n m : ℕ) (x : An
     → WFPivots (elements p) ≡ true
 table-checked-wf shape wrong p e n m x f h = table-wf shape wrong p e (accepted (tableCauses shape wrong p e) n x f m h)
 
--- ---- what is written
+-- ---- the other arguments of a call
 
--- the record of an element is read as one
-element-reads : (e : Element) → shortElement e ≡ true → elementReading (reading (encode e)) ≡ true
-element-reads (key k) h = rw (reading-key k (leb-true (length k) maxLen h))
-element-reads max h = rw reading-max
+-- its counts are right
+table-counts : (p e : List ℕ) → first (tableCauses false false p e) ≡ none → (notEdgeCount p e || notPivotCount p) ≡ false
+unfolding pivotCauses
+table-counts p e h = none-here _ Shape _ (table-pivots false false p e h)
 
--- the record of an element below another is read as a key
-key-reads : (e f : Element) → shortElement e ≡ true → lt e f ≡ true → keyReading (reading (encode e)) ≡ true
-key-reads (key k) f h l = rw (reading-key k (leb-true (length k) maxLen h))
-key-reads max f h l = absurd (false≢true (below-key max f l))
+-- so an argument that is wrong would be the first cause
+pub wrong-first : (wrong : Bool) (p e : List ℕ) → first (tableCauses false false p e) ≡ none
+    → first (tableCauses false wrong p e) ≡ cond wrong (some Malformed) none
+unfolding tableCauses pivotCauses outcome
+wrong-first true p e h = rw (table-counts p e h)
+wrong-first false p e h = h
 
--- the records of pivots that rise strictly, none too long, are read as pivots
-pivots-read : (pt : PivotTable) → IsStrictlySorted pt ≡ true → all shortElement pt ≡ true → pivotsRead (map encode pt) ≡ true
-unfolding pivotsRead all
-pivots-read [] s h = refl
-pivots-read (e ∷ []) s h = rw (element-reads e (both (shortElement e) true h .0))
-pivots-read (e ∷ f ∷ pt) s h =
-    let b = both (shortElement e) (all shortElement (f ∷ pt)) h in
-    rw (key-reads e f (b .0) (sorted-head e f pt s)) (pivots-read (f ∷ pt) (sorted-tail e (f ∷ pt) s) (b .1))
-
--- the pieces of 66 bytes of written pivots are their records
-pieces-encode : (pt : PivotTable) → all shortElement pt ≡ true → pieces recordSize (length pt) (joined (map encode pt)) ≡ map encode pt
-unfolding pieces joined all
-pieces-encode [] h = refl
-pieces-encode (e ∷ pt) h =
-    let b = both (shortElement e) (all shortElement pt) h in
-    let l = length-encode e (b .0) in
-    rw (take-at (encode e) (joined (map encode pt)) recordSize l, drop-at (encode e) (joined (map encode pt)) recordSize l, pieces-encode pt (b .1))
-
--- the records of written pivots
-pub records-encodeAll : (pt : PivotTable) → all shortElement pt ≡ true → records (encodeAll pt) ≡ map encode pt
-unfolding records encodeAll
-records-encodeAll pt h =
-    let n : length (encodeAll pt) / recordSize ≡ length pt = omega (arith, length-encodeAll pt h) in
-    rw n (pieces-encode pt h)
-
--- their count is right
-encoded-count : (pt : PivotTable) → all shortElement pt ≡ true → 2 ≤ length pt → length pt ≤ maxPivots → notPivotCount (encodeAll pt) ≡ false
-unfolding notPivotCount
-encoded-count pt h k m =
-    let n : length (encodeAll pt) / recordSize ≡ length pt = omega (arith, length-encodeAll pt h) in
-    let r : length (encodeAll pt) % recordSize ≡ 0 = omega (arith, length-encodeAll pt h) in
-    rw (n, r, le-leb minPivots (length pt) k, le-leb (length pt) maxPivots m)
-
--- written pivots of a well-formed table have none of the causes
-pub wf-causes : (pt : PivotTable) → WFPivots pt ≡ true → length pt ≤ maxPivots → first (pivotCauses false false (encodeAll pt)) ≡ none
-unfolding pivotCauses outcome
-wf-causes pt w m =
-    let s = wf-sorted pt w in
-    let h = wf-all-short pt w in
-    rw (encoded-count pt h (wf-count pt w) m, records-encodeAll pt h, pivots-read pt s h, elements-encodeAll pt h, s)
+-- a key of at most 64 bytes is not too long
+pub not-too-long : (k : Key) → length k ≤ maxLen → tooLong k ≡ false
+not-too-long k h = le-ltb maxLen (length k) h

@@ -1,6 +1,6 @@
 -- Buckets: entries of a key record and a number, and their translation (TranslateBucket, WFTBucket of TranslationLib).
 use mathlib.Core.Path.{_≡_}
-use mathlib.Core.Bool.{Bool, true, false, cond, _&&_}
+use mathlib.Core.Bool.{Bool, true, false, cond}
 use mathlib.Core.List.{List, [], _∷_, _++_, map}
 use Prim.Native.Nat.{ℕ, _+_, _/_, _≤_, _<_}
 use lib.ListN.{length, take, drop, getD}

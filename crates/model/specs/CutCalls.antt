@@ -1,5 +1,5 @@
 -- The cuts and the translation of a key: for each call its causes in order, its answer, and what it leaves in each destination.
-use mathlib.Core.Bool.{Bool, true, false, not, _||_}
+use mathlib.Core.Bool.{Bool, false, not, _||_}
 use mathlib.Core.List.{List, [], _∷_, _++_}
 use Prim.Native.Nat.{ℕ, _*_}
 use lib.ListN.{length}

@@ -1,10 +1,10 @@
 -- The cuts of a table with its edges, and the plain cut of document 01.
-use mathlib.Core.Bool.{Bool, true, false, cond, _&&_}
-use mathlib.Core.List.{List, [], _∷_, _++_}
+use mathlib.Core.Bool.{cond, _&&_}
+use mathlib.Core.List.{[], _∷_, _++_}
 use Prim.Native.Nat.{ℕ, _+_}
-use lib.ListN.{length, take, drop}
+use lib.ListN.{take, drop}
 use Rattle.model.specs.Key.{Key, changePrefix}
-use Rattle.model.specs.Order.{Element, key, max, lt, LargestLte}
+use Rattle.model.specs.Order.{Element, key, lt, LargestLte}
 use Rattle.model.specs.Record.{Edge, edge, noEdge}
 use Rattle.model.specs.RangePrefix.{PivotLcp}
 use Rattle.model.specs.Tables.{PivotTable, EdgeTable, pivotAt, edgeAt, CutoffForLeft, CutoffForRight}

@@ -1,8 +1,8 @@
 -- Pivots and edges under another prefix, and the question of parent and child: the rest of TranslationLib but buckets.
-use mathlib.Core.Bool.{Bool, true, false, cond, not}
-use mathlib.Core.List.{List, [], _∷_, _++_, map}
-use Prim.Native.Nat.{ℕ, _+_, _-_}
-use lib.ListN.{length, take}
+use mathlib.Core.Bool.{Bool, cond}
+use mathlib.Core.List.{[], _∷_, _++_, map}
+use Prim.Native.Nat.{ℕ, _+_}
+use lib.ListN.{take}
 use Rattle.model.specs.Key.{Key, IsPrefix, changePrefix}
 use Rattle.model.specs.Order.{Element, key, max}
 use Rattle.model.specs.Record.{Edge, edge, noEdge}

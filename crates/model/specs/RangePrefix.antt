@@ -1,7 +1,7 @@
 -- The prefix of a range of keys: lcpright, lcp and PivotLcp of TranslationLib.
-use mathlib.Core.Bool.{Bool, true, false, cond, _&&_}
-use mathlib.Core.List.{List, [], _∷_}
-use Prim.Native.Nat.{ℕ, _+_}
+use mathlib.Core.Bool.{Bool, cond, _&&_}
+use mathlib.Core.List.{[], _∷_}
+use Prim.Native.Nat.{_+_}
 use lib.Dec.{eqb}
 use Rattle.model.specs.Key.{Key, isNil}
 use Rattle.model.specs.Order.{Element, key, max, lte, lt}

@@ -5,13 +5,13 @@ use mathlib.Core.Option.{Option, none}
 use Prim.Native.Nat.{ℕ}
 use Rattle.model.specs.Key.{Key}
 use Rattle.model.specs.Order.{Element, key, max}
-use Rattle.model.specs.Record.{Edge, edge, noEdge, encodeAll, encodeEdges}
+use Rattle.model.specs.Record.{edge, noEdge, encodeAll, encodeEdges}
 use Rattle.model.specs.RangePrefix.{PivotLcp}
 use Rattle.model.specs.UpperBound.{ShortestUncommonPrefix}
 use Rattle.model.specs.Tables.{PivotTable, EdgeTable}
 use Rattle.model.specs.Cuts.{SplitLeft, SplitRight, SplitLeftEdges, SplitRightEdges}
 use Rattle.model.specs.Translation.{PrefixSet, pair, ComposePrefixSet}
-use Rattle.model.specs.Pivots.{Bounds, TranslatePivotPairInternal}
+use Rattle.model.specs.Pivots.{TranslatePivotPairInternal}
 
 pub data Row : Type 0 where
   prefixOf : Key → Element → Key → Row

@@ -1,8 +1,7 @@
 -- Prefix pairs, and the translation of a key in a table: the PrefixSet functions of TranslationLib.
-use mathlib.Core.Bool.{Bool, true, false, cond, _||_}
-use mathlib.Core.List.{List, [], _∷_}
+use mathlib.Core.Bool.{Bool, true, cond, _||_}
 use mathlib.Core.Option.{Option, none, some}
-use Prim.Native.Nat.{ℕ, _+_}
+use Prim.Native.Nat.{_+_}
 use lib.Dec.{leb}
 use lib.ListN.{length}
 use Rattle.model.specs.Key.{Key, IsPrefix, changePrefix}
