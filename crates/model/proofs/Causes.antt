@@ -177,6 +177,10 @@ module _ (s : Routed) where
   unfolding slotAnswer
   slot-refusal r e = rw e
 
+  -- its refusal, taken for an answer
+  pub slot-told : (z : Answer) (r : Refusal) → z ≡ slotAnswer s → s ≡ routed.Refused r → z ≡ answers.Refused r
+  slot-told z r e h = e ∙ sym (slot-refusal r h)
+
 -- its slot, or its refusal, is the answer of the same causes
 as-answer : (cs : List Cause) (n : ℕ) → slotAnswer (routing cs n) ≡ answer cs n
 unfolding outcome slotAnswer
@@ -234,4 +238,4 @@ pub ruleset answering = (refl, value-done, order-done, slot-done, here, later, d
 pub ruleset handing-on = (handed-on, handed-on-first, call-passed, call-passed-first, answering)
 
 -- and after one whose slot or refusal is
-pub ruleset slot-handing-on = (slot-handed-on, slot-passed, answering)
+pub ruleset slot-handing-on = (slot-told, slot-handed-on, slot-passed, answering)

@@ -6,6 +6,8 @@ use mathlib.Core.Option.{none}
 use Prim.Native.Nat.{ℕ, _+_, _*_, _/_, _≤_, _<_}
 use native.Mathlib.Omega.{arith}
 use borrow.Author.Tests.{leb-true, not-false}
+use mir.Syntax.{w64}
+use mir.Val.{Fits}
 use lib.Dec.{eqb}
 use lib.ListN.{length, take, drop, length-append, length-drop}
 use lib.Seq.{length-take-le}
@@ -15,7 +17,7 @@ use Rattle.model.specs.Order.{key, max, isKey}
 use Rattle.model.specs.Record.{noEdge, recordSize, maxMark, lengthField, keyBytes, element, edgeOf, recordOf, encode, encodeEdge, joined}
 use Rattle.model.specs.Record.{recordAt, elements, edges, encodeAll, encodeEdges}
 use Rattle.model.specs.RangePrefix.{PivotLcp}
-use Rattle.model.specs.Tables.{PivotTable, EdgeTable, pivotAt, edgeAt, all, shortElement, shortEdge, WFPivots}
+use Rattle.model.specs.Tables.{PivotTable, EdgeTable, maxPivots, pivotAt, edgeAt, all, shortElement, shortEdge, WFPivots}
 use Rattle.model.specs.Cuts.{SplitLeft, SplitRight, SplitLeftEdges, SplitRightEdges}
 use Rattle.model.specs.Sides.{inside, cutoff, Split, SplitEdges, cutFrom, cutUpto, cutSlotEdge, keptPart, beside, edgePlace}
 use Rattle.model.specs.TableCalls.{tableCauses}
@@ -28,7 +30,7 @@ use Rattle.model.proofs.Records.{joined-append, joined-take, joined-dro
 use Rattle.model.proofs.RangePrefix.{BytesE}
 use Rattle.model.proofs.Routing.{wf-keys, wf-short, wf-all-short}
 use Rattle.model.proofs.TableBytes.{length-elements, length-edges, element-at, edge-at}
-use Rattle.model.proofs.TableBytes.{table-wf, table-whole, table-count, table-edges-whole, table-edges-short, wrong-key}
+use Rattle.model.proofs.TableBytes.{table-wf, table-most, table-whole, table-count, table-edges-whole, table-edges-short, wrong-key}
 use Rattle.model.proofs.TableBytes.{table-bytes, table-encode, table-encode-edges}
 use Rattle.model.proofs.Between.{BytesT, bytes-at}
 use Rattle.model.proofs.Slots.{Table, wf-says, Inside}
@@ -158,6 +160,13 @@ module _ (left : Bool) (p e : List ℕ) (k : Key) (h : first (edgeSlotCauses p e
   -- and its edge
   pub cut-slot-edge : cutoff left (elements p) k < length e / recordSize
   cut-slot-edge = omega (arith, cut-slot, cut-edges-less)
+
+  -- the places of its pivots are small numbers
+  pub cut-slot-small : cutoff left (elements p) k + 1 < maxPivots
+  cut-slot-small = omega (arith, slot .slot, table-most _ _ p e cut-table)
+
+  pub cut-next-fits : (c : ℕ) → c ≡ cutoff left (elements p) k → Fits w64 (c + 1)
+  cut-next-fits c f = record { fits = omega (arith, f, cut-slot-small) }
 
   -- the slot's first pivot is a key, that of its record
   pub cut-left-key : pivotAt (elements p) (cutoff left (elements p) k) ≡ key (keyBytes (recordAt p (cutoff left (elements p) k)))

@@ -11,6 +11,7 @@ pub mod Places
 pub mod Insertable
 pub mod Routing
 pub mod TableBytes
+pub mod ChangePrefix
 pub mod Between
 pub mod Slots
 pub mod Ranges

@@ -44,6 +44,10 @@ getD-map f (x ∷ l) (suc i) d e h = getD-map f l i d e (omega arith)
 pub rest : (l : List ℕ) (i : ℕ) → take (length l - i) (drop i l) ≡ drop i l
 rest l i = take-all (length l - i) (drop i l) (omega (arith, length-drop i l))
 
+-- a part up to a place inside is that long
+pub part-counts : (n : ℕ) (l : List ℕ) → n ≤ length l → n ≡ length (take n l)
+part-counts n l h = sym (length-take-le n l h)
+
 -- taking no more than there is
 pub take-min : (n : ℕ) (l : List ℕ) → take (min n (length l)) l ≡ take n l
 take-min n l =

@@ -1,17 +1,19 @@
 -- A cut translates each key that it keeps as the table does.
 use mathlib.Core.Path.{_≡_, refl}
 use mathlib.Core.Bool.{true}
+use mathlib.Core.Option.{some, Option·some-injective}
 use Prim.Native.Nat.{_+_}
 use lib.ListN.{length}
 use Rattle.model.specs.Key.{Key, Bytes, IsPrefix}
 use Rattle.model.specs.Order.{Element, key, max, lte, lt}
 use Rattle.model.specs.Record.{Edge, edge, noEdge}
 use Rattle.model.specs.RangePrefix.{PivotLcp}
-use Rattle.model.specs.Tables.{PivotTable, EdgeTable, NumBuckets, pivotAt, WFPivots, WFEdges, BoundedKey, ValidLeftCutOffKey, Route}
+use Rattle.model.specs.Tables.{PivotTable, EdgeTable, NumBuckets, pivotAt, edgeAt, WFPivots, WFEdges, BoundedKey, ValidLeftCutOffKey, Route}
 use Rattle.model.specs.Cuts.{SplitLeft, SplitRight, SplitLeftEdges, SplitRightEdges, cutEdge, edgeWithin}
-use Rattle.model.specs.Translation.{ApplyPrefixSet, edgePair, Translate, TranslateKey}
+use Rattle.model.specs.Translation.{PrefixSet, ApplyPrefixSet, edgePair, Translate, TranslateKey}
 use Rattle.model.proofs.RangePrefix.{BytesE, shared}
 use Rattle.model.proofs.Between.{BytesT, bytes-at}
+use Rattle.model.proofs.Routing.{route-from, route-below}
 use Rattle.model.proofs.Slots.{Table, wf-says}
 use Rattle.model.proofs.Ranges.{cutTo, Spans, cut-slot, cut-route}
 use Rattle.model.proofs.Cuts.{left-spans, left-is-cut, right-spans, right-is-cut}
@@ -23,6 +25,23 @@ pub begins : (l r : Element) (k : Key) → Bytes k → lte l (key k) ≡ true �
 unfolding PivotLcp IsPrefix
 begins (key l) r k b h f = shared l r k b (rw h f)
 begins max r k b h f = refl
+
+-- a pair is there only where an edge is, and is of the range's prefix and that edge
+pair-is : (p : Key) (x : Edge) (a : PrefixSet) → edgePair p x ≡ some a → (a .prefix ≡ p) × (x ≡ edge (a .newPrefix))
+unfolding edgePair
+pair-is p (edge q) a e = let f = Option·some-injective _ a e in (rw (← f), rw (← f))
+pair-is p noEdge a e = (cc, cc)
+
+module _ (pt : PivotTable) (et : EdgeTable) (k : Key) (a : PrefixSet) where
+  -- the new prefix of a key's pair is the edge of its slot
+  pub translate-edge : Translate pt et k ≡ some a → edgeAt et (Route pt k) ≡ edge (a .newPrefix)
+  unfolding Translate
+  translate-edge e = pair-is _ _ a e .1
+
+  -- and its prefix begins the key
+  pub translate-begins : WFPivots pt ≡ true → BoundedKey pt k ≡ true → Bytes k → Translate pt et k ≡ some a → IsPrefix (a .prefix) k ≡ true
+  unfolding Translate
+  translate-begins w h b e = rw (pair-is _ _ a e .0) (begins _ _ k b (route-from pt k w h) (route-below pt k w h))
 
 -- the longer prefix, changed to the cut edge, is the prefix, changed to the edge
 cut-pair : (p q k : Key) (e : Edge) → IsPrefix p q ≡ true → IsPrefix q k ≡ true

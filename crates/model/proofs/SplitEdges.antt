@@ -1,7 +1,7 @@
--- The edges of the left and the right cut: they fit, and where the cut slot's range or edge does not change they are the old ones.
+-- The edges of the left and the right cut: they fit, and where the cut slot's range or edge does not change they are the old ones. Where there are none, a cut is of pivots alone.
 use mathlib.Core.Path.{_≡_, refl, sym, _∙_}
 use mathlib.Core.Logic.{⊎-elim}
-use mathlib.Core.Bool.{true}
+use mathlib.Core.Bool.{Bool, true, false}
 use mathlib.Core.List.{[], _∷_, _++_}
 use Prim.Native.Nat.{ℕ, zero, suc, _+_, _-_, _≤_, _<_}
 use native.Mathlib.Numerals.{add-one}
@@ -15,6 +15,7 @@ use Rattle.model.specs.Record.{Edge, noEdge}
 use Rattle.model.specs.Tables.{PivotTable, EdgeTable, NumBuckets, pivotAt, edgeAt, lastPivot, all, shortEdge, WFPivots, WFEdges}
 use Rattle.model.specs.Tables.{BoundedKey, ValidLeftCutOffKey, CutoffForLeft, CutoffForRight}
 use Rattle.model.specs.Cuts.{SplitLeft, SplitRight, cutEdge, edgeWithin, SplitLeftEdges, SplitRightEdges}
+use Rattle.model.specs.Sides.{SplitEdges}
 use Rattle.model.proofs.Lists.{le-or-lt, all-at, all-append, all-parts}
 use Rattle.model.proofs.Between.{BytesT, bytes-at}
 use Rattle.model.proofs.Slots.{Table, wf-says, inside-left, slot-itself}
@@ -207,3 +208,24 @@ module _ (pt : PivotTable) (et : EdgeTable) (k : Key) where
       → all shortEdge (SplitRightEdges et pt k) ≡ true
   unfolding SplitRightEdges all
   right-all-short h f = rw f (all-parts shortEdge (CutoffForRight pt k + 1) et h .1)
+
+-- ---- tables with no edges: the cuts of pivots alone
+
+-- no edge in each slot fits
+pub no-edges-fit : (pt : PivotTable) (et : EdgeTable) → length et + 1 ≡ length pt → ((i : ℕ) → edgeAt et i ≡ noEdge) → WFEdges et pt ≡ true
+no-edges-fit pt et n f = say-edges et pt (record { count = n; fits = λ i h. rw (f i) })
+
+-- and is short
+none-short : (et : EdgeTable) → ((i : ℕ) → edgeAt et i ≡ noEdge) → all shortEdge et ≡ true
+unfolding all
+none-short [] f = refl
+none-short (x ∷ et) f = rw (f 0) (none-short et (λ i. f (suc i)))
+
+-- and so it is in each cut
+pub no-edges-short : (left : Bool) (pt : PivotTable) (et : EdgeTable) (k : Key) → ((i : ℕ) → edgeAt et i ≡ noEdge)
+    → all shortEdge (SplitEdges left et pt k) ≡ true
+unfolding SplitLeftEdges SplitRightEdges edgeWithin cutEdge all
+no-edges-short true pt et k f =
+    let c = CutoffForLeft pt k in
+    rw (all-append shortEdge (take c et) _, all-parts shortEdge c et (none-short et f) .0, f c)
+no-edges-short false pt et k f = rw (f (CutoffForRight pt k)) (all-parts shortEdge (CutoffForRight pt k + 1) et (none-short et f) .1)

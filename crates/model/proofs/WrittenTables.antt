@@ -1,24 +1,26 @@
--- A well-formed table, written as records, has none of the causes 1 to 4.
+-- A well-formed table, written as records, has none of the causes 1 to 4, and its pivots are bytes.
 use mathlib.Core.Path.{_≡_, refl, sym}
 use mathlib.Core.Bool.{Bool, true, false, false≢true}
 use mathlib.Core.List.{List, [], _∷_, map}
 use mathlib.Core.Option.{none, some}
-use Prim.Native.Nat.{ℕ, _+_, _/_, _%_, _≤_}
+use Prim.Native.Nat.{ℕ, zero, suc, _+_, _-_, _/_, _%_, _≤_}
 use native.Mathlib.Omega.{arith}
 use borrow.Author.Tests.{leb-true, le-leb, eq-eqb}
 use lib.ListN.{length}
 use lib.Seq.{take-at, drop-at}
-use Rattle.model.specs.Key.{maxLen}
+use Rattle.model.specs.Key.{Key, Bytes, maxLen}
 use Rattle.model.specs.Order.{Element, key, max, lt}
 use Rattle.model.specs.Record.{Edge, edge, noEdge, recordSize, reading, keyReading, elementReading, edgeReading}
-use Rattle.model.specs.Record.{pieces, joined, records, encode, encodeEdge, encodeAll, encodeEdges}
+use Rattle.model.specs.Record.{pieces, joined, records, maxMark, zeros, recordOf, encode, encodeEdge, encodeAll, encodeEdges}
 use Rattle.model.specs.Tables.{PivotTable, EdgeTable, minPivots, maxPivots, all, shortElement, shortEdge, IsStrictlySorted, WFPivots, WFEdges}
 use Rattle.model.specs.Refusals.{outcome, first}
 use Rattle.model.specs.TableCalls.{notPivotCount, notEdgeCount, pivotsRead, edgesRead, pivotCauses, tableCauses}
 use Rattle.model.proofs.Causes.{after}
 use Rattle.model.proofs.Order.{below-key}
 use Rattle.model.proofs.Places.{sorted-head, sorted-tail}
-use Rattle.model.proofs.Prefix.{both}
+use Rattle.model.proofs.Prefix.{both, bytes-append}
+use Rattle.model.proofs.RangePrefix.{BytesE}
+use Rattle.model.proofs.Between.{BytesT}
 use Rattle.model.proofs.Record.{reading-key, reading-max, reading-noEdge, length-encode, length-encodeEdge}
 use Rattle.model.proofs.Records.{length-encodeAll, length-encodeEdges, elements-encodeAll, edges-encodeEdges}
 use Rattle.model.proofs.Routing.{wf-sorted, wf-count, wf-all-short}
@@ -77,6 +79,27 @@ wf-causes pt w m =
     let s = wf-sorted pt w in
     let h = wf-all-short pt w in
     rw (encoded-count pt h (wf-count pt w) m, records-encodeAll pt h, pivots-read pt s h, elements-encodeAll pt h, s)
+
+-- the record of a key of bytes is of bytes
+record-bytes : (n : ℕ) (k : Key) → n ≤ maxMark → Bytes k → Bytes (recordOf n k)
+unfolding recordOf
+record-bytes n k h b = (omega arith, (omega arith, bytes-append k _ b (go (maxLen - length k))))
+  where
+    go : (m : ℕ) → Bytes (zeros m)
+    go zero = tt
+    go (suc m) = (omega arith, go m)
+
+-- written pivots of bytes are bytes
+pub bytes-encodeAll : (pt : PivotTable) → all shortElement pt ≡ true → BytesT pt → Bytes (encodeAll pt)
+unfolding encodeAll joined encode all
+bytes-encodeAll [] h b = tt
+bytes-encodeAll (e ∷ pt) h b =
+    let c = both (shortElement e) (all shortElement pt) h in
+    bytes-append (encode e) (encodeAll pt) (go e (c .0) (b .0)) (bytes-encodeAll pt (c .1) (b .1))
+  where
+    go : (e : Element) → shortElement e ≡ true → BytesE e → Bytes (encode e)
+    go (key k) h b = record-bytes (length k) k (omega (arith, leb-true (length k) maxLen h)) b
+    go max h b = record-bytes maxMark [] (omega arith) tt
 
 -- ---- edges
 

@@ -59,13 +59,15 @@ entryKeyAnswer e = answer (entryKeyCauses e) (length (keyBytes (entryRecord e)))
 abbrev pub entryKeyPart : List ℕ → List ℕ
 entryKeyPart e = part (entryKeyCauses e) (keyBytes (entryRecord e))
 
+-- a produced key x, into d: "A produced key passes 64 bytes", "A destination is too short"
+abbrev pub sizeCauses : Key → List ℕ → List Cause
+sizeCauses x d = (tooLong x ⇒ TooLong) ∷ (noRoom (length x) d ⇒ NoRoom) ∷ []
+
 -- changing the prefix p to q in k, into d
 abbrev pub changePrefixCauses : Key → Key → Key → List ℕ → List Cause
 changePrefixCauses k p q d =
     (tooLong k || tooLong p || tooLong q ⇒ Malformed) ∷
-    (not (IsPrefix p k) ⇒ NotPrefix) ∷
-    (tooLong (changePrefix p q k) ⇒ TooLong) ∷
-    (noRoom (length (changePrefix p q k)) d ⇒ NoRoom) ∷ []
+    (not (IsPrefix p k) ⇒ NotPrefix) ∷ sizeCauses (changePrefix p q k) d
 
 abbrev pub changePrefixAnswer : Key → Key → Key → List ℕ → Answer
 changePrefixAnswer k p q d = answer (changePrefixCauses k p q d) (length (changePrefix p q k))

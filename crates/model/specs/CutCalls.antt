@@ -11,7 +11,7 @@ use Rattle.model.specs.Tables.{PivotTable, EdgeTable, all, shortEdge, Bo
 use Rattle.model.specs.Sides.{inside, Split, SplitEdges}
 use Rattle.model.specs.Translation.{TranslateKey}
 use Rattle.model.specs.Refusals.{Cause, _⇒_, answer, leaves}
-use Rattle.model.specs.Calls.{noRoom}
+use Rattle.model.specs.Calls.{noRoom, sizeCauses}
 use Rattle.model.specs.TableCalls.{tableCauses}
 
 -- pivots p, edges e and a key k: causes 1 to 4, and 5 where the key isn't inside
@@ -51,9 +51,7 @@ cutLeavesEdges left p e k dp de = leaves (cutCauses left p e k dp de) (encodeEdg
 
 abbrev pub translateKeyCauses : List ℕ → List ℕ → Key → List ℕ → List Cause
 translateKeyCauses p e k d =
-    edgeSlotCauses p e k (BoundedKey (elements p) k)
-    ++ ((tooLong (TranslateKey (elements p) (edges e) k) ⇒ TooLong) ∷
-    (noRoom (length (TranslateKey (elements p) (edges e) k)) d ⇒ NoRoom) ∷ [])
+    edgeSlotCauses p e k (BoundedKey (elements p) k) ++ sizeCauses (TranslateKey (elements p) (edges e) k) d
 
 abbrev pub translateKeyAnswer : List ℕ → List ℕ → Key → List ℕ → Answer
 translateKeyAnswer p e k d = answer (translateKeyCauses p e k d) (length (TranslateKey (elements p) (edges e) k))

@@ -1,0 +1,4 @@
+pub mod Parts
+pub mod Edges
+pub mod Slots
+pub mod Writes

@@ -1,0 +1,32 @@
+-- The slot that a cut at k finds in pivots p and edges e, and its cut edge.
+use mathlib.Core.Path.{_≡_}
+use mathlib.Core.Bool.{Bool, not, _||_}
+use mathlib.Core.List.{List, [], _∷_}
+use mathlib.Core.Option.{none}
+use Prim.Native.Nat.{ℕ, _*_}
+use lib.ListN.{length}
+use Rattle.model.specs.declared.Refusal.the-variants.{TooLong, NoRoom}
+use Rattle.model.specs.Key.{Key}
+use Rattle.model.specs.Record.{Edge, recordSize, elements, edges}
+use Rattle.model.specs.Tables.{shortEdge}
+use Rattle.model.specs.Sides.{inside, cutoff, cutSlotEdge}
+use Rattle.model.specs.Refusals.{Cause, _⇒_, first}
+use Rattle.model.specs.Calls.{noRoom}
+use Rattle.model.specs.CutCalls.{edgeSlotCauses, cutPivots, cutEdges}
+
+-- none of the causes 1 to 5 applies, and c is the slot
+abbrev pub Found : Bool → List ℕ → List ℕ → Key → ℕ → Type 0
+Found left p e k c = (first (edgeSlotCauses p e k (inside left (elements p) k)) ≡ none) × (c ≡ cutoff left (elements p) k)
+
+-- its edge, cut
+unfoldable pub edgeCut : Bool → List ℕ → List ℕ → Key → Edge
+edgeCut left p e k = cutSlotEdge left (elements p) (edges e) k
+
+-- cause 8 of one edge
+abbrev pub longCauses : Edge → List Cause
+longCauses e = (not (shortEdge e) ⇒ TooLong) ∷ []
+
+-- cause 10 of the cut
+abbrev pub roomCauses : Bool → List ℕ → List ℕ → Key → List ℕ → List ℕ → List Cause
+roomCauses left p e k dp de =
+    (noRoom (length (cutPivots left p k) * recordSize) dp || noRoom (length (cutEdges left p e k) * recordSize) de ⇒ NoRoom) ∷ []

@@ -1,0 +1,6 @@
+// The cuts of a table with its edges. No public function has a `requires`.
+mod edge;
+mod split;
+
+pub use split::split_left;
+pub use split::split_right;

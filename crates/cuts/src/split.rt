@@ -1,0 +1,140 @@
+// The cut on the left and on the right.
+use crate::edge::slot_edge;
+use model::Answer;
+use model::RECORD_SIZE;
+use model::Refusal;
+use model::Routed;
+ghost use mathlib.Core.Path.{_≡_};
+ghost use mathlib.Core.Bool.{true, false};
+ghost use Prim.Native.Nat.{_/_, _≤_, _<_};
+ghost use lib.ListN.{length};
+ghost use Rattle.model.specs.Record.{recordSize, encodeEdge, encodeAll, encodeEdges};
+ghost use Rattle.model.specs.Tables.{shortEdge};
+ghost use Rattle.model.specs.Sides.{keptPart, beside, edgePlace};
+ghost use Rattle.model.specs.Refusals.{answer, leaves, into};
+ghost use Rattle.model.specs.CutCalls.{cutPivots, cutEdges, writeCauses, cutAnswer, cutLeavesPivots, cutLeavesEdges};
+ghost use Rattle.cuts.specs.Slot.{Found, edgeCut, roomCauses};
+
+// The first n records, or those from place n on.
+fn kept(bytes: &[u8], n: usize, left: bool) -> &[u8]
+    requires { ⌜ n ≤ length (now bytes) / recordSize ⌝ }
+    ensures { λ r. ⌜ now r ≡ keptPart left n (now (bytes .entry)) ⌝ }
+{
+    let at = n * RECORD_SIZE;
+    if left {
+        return &bytes[..at];
+    }
+    &bytes[at..]
+}
+
+// The place up to which, or from which on, edges are kept.
+fn edge_place(c: usize, left: bool) -> usize
+    requires { ⌜ c < 64 ⌝ }
+    ensures { λ r. ⌜ r ≡ edgePlace left c ⌝ }
+{
+    if left {
+        return c;
+    }
+    c + 1
+}
+
+// Writes what is kept with what is new beside it.
+fn put(kept: &[u8], new: &[u8], left: bool, dest: &mut [u8])
+    ensures { λ _. ⌜ now (dest .exit) ≡ into (beside left (now (kept .entry)) (now (new .entry))) (now (dest .entry)) ⌝ }
+{
+    if left {
+        records::join(kept, new, dest);
+    } else {
+        records::join(new, kept, dest);
+    }
+}
+
+// Cause 10 of a cut in slot c whose edge is made; else its pivots and edges at the heads of the destinations.
+fn write_at(
+    pivots: &[u8],
+    edges: &[u8],
+    k: &[u8],
+    c: usize,
+    left: bool,
+    made: &[u8],
+    dp: &mut [u8],
+    de: &mut [u8],
+) -> Answer
+    requires { ⌜ (Found left (now pivots) (now edges) (now k) c) × (shortEdge (edgeCut left (now pivots) (now edges) (now k)) ≡ true) × (now made ≡ encodeEdge (edgeCut left (now pivots) (now edges) (now k))) ⌝ }
+    ensures answered { λ r. ⌜ r ≡ answer (roomCauses left (now (pivots .entry)) (now (edges .entry)) (now (k .entry)) (now (dp .entry)) (now (de .entry))) (length (cutPivots left (now (pivots .entry)) (now (k .entry)))) ⌝ }
+    ensures pivots { λ r. ⌜ now (dp .exit) ≡ leaves (roomCauses left (now (pivots .entry)) (now (edges .entry)) (now (k .entry)) (now (dp .entry)) (now (de .entry))) (encodeAll (cutPivots left (now (pivots .entry)) (now (k .entry)))) (now (dp .entry)) ⌝ }
+    ensures edges { λ r. ⌜ now (de .exit) ≡ leaves (roomCauses left (now (pivots .entry)) (now (edges .entry)) (now (k .entry)) (now (dp .entry)) (now (de .entry))) (encodeEdges (cutEdges left (now (pivots .entry)) (now (edges .entry)) (now (k .entry)))) (now (de .entry)) ⌝ }
+{
+    let kept_pivots = kept(pivots, c + 1, left);
+    let kept_edges = kept(edges, edge_place(c, left), left);
+    if dp.len() < kept_pivots.len() + RECORD_SIZE {
+        return Answer::Refused(Refusal::NoRoom);
+    }
+    if de.len() < kept_edges.len() + RECORD_SIZE {
+        return Answer::Refused(Refusal::NoRoom);
+    }
+    put(
+        kept_pivots,
+        &records::record_of(k.len() as u16, k),
+        left,
+        dp,
+    );
+    put(kept_edges, made, left, de);
+    Answer::Value(kept_pivots.len() / RECORD_SIZE + 1)
+}
+
+// Causes 8 and 10 of a cut in slot c; else its pivots and edges at the heads of the destinations.
+fn cut_at(
+    pivots: &[u8],
+    edges: &[u8],
+    k: &[u8],
+    c: usize,
+    left: bool,
+    dp: &mut [u8],
+    de: &mut [u8],
+) -> Answer
+    requires { ⌜ Found left (now pivots) (now edges) (now k) c ⌝ }
+    ensures answered { λ r. ⌜ r ≡ answer (writeCauses (cutPivots left (now (pivots .entry)) (now (k .entry))) (cutEdges left (now (pivots .entry)) (now (edges .entry)) (now (k .entry))) (now (dp .entry)) (now (de .entry))) (length (cutPivots left (now (pivots .entry)) (now (k .entry)))) ⌝ }
+    ensures pivots { λ r. ⌜ now (dp .exit) ≡ leaves (writeCauses (cutPivots left (now (pivots .entry)) (now (k .entry))) (cutEdges left (now (pivots .entry)) (now (edges .entry)) (now (k .entry))) (now (dp .entry)) (now (de .entry))) (encodeAll (cutPivots left (now (pivots .entry)) (now (k .entry)))) (now (dp .entry)) ⌝ }
+    ensures edges { λ r. ⌜ now (de .exit) ≡ leaves (writeCauses (cutPivots left (now (pivots .entry)) (now (k .entry))) (cutEdges left (now (pivots .entry)) (now (edges .entry)) (now (k .entry))) (now (dp .entry)) (now (de .entry))) (encodeEdges (cutEdges left (now (pivots .entry)) (now (edges .entry)) (now (k .entry)))) (now (de .entry)) ⌝ }
+{
+    let mut made = [0u8; 66];
+    let cut = slot_edge(pivots, edges, k, c, left, &mut made);
+    let Answer::Value(_) = cut else {
+        return cut;
+    };
+    write_at(pivots, edges, k, c, left, &made, dp, de)
+}
+
+// A cut at the key, on the left or on the right.
+fn cut(pivots: &[u8], edges: &[u8], k: &[u8], left: bool, dp: &mut [u8], de: &mut [u8]) -> Answer
+    ensures answered { λ r. ⌜ r ≡ cutAnswer left (now (pivots .entry)) (now (edges .entry)) (now (k .entry)) (now (dp .entry)) (now (de .entry)) ⌝ }
+    ensures pivots { λ r. ⌜ now (dp .exit) ≡ cutLeavesPivots left (now (pivots .entry)) (now (edges .entry)) (now (k .entry)) (now (dp .entry)) (now (de .entry)) ⌝ }
+    ensures edges { λ r. ⌜ now (de .exit) ≡ cutLeavesEdges left (now (pivots .entry)) (now (edges .entry)) (now (k .entry)) (now (dp .entry)) (now (de .entry)) ⌝ }
+{
+    let routed = routing::slot_with_edges(pivots, edges, k, left);
+    let Routed::Slot(c) = routed else {
+        return routing::slot_answer(routed);
+    };
+    cut_at(pivots, edges, k, c, left, dp, de)
+}
+
+// SplitLeft with SplitLeftEdges: the pivots below the key and the key, and their edges, at the heads of the two
+// destinations. Answers the number of pivots. Refuses 1, 2, 3, 4, 5, 8 and 10.
+pub fn split_left(pivots: &[u8], edges: &[u8], key: &[u8], dp: &mut [u8], de: &mut [u8]) -> Answer
+    ensures answered { λ r. ⌜ r ≡ cutAnswer true (now (pivots .entry)) (now (edges .entry)) (now (key .entry)) (now (dp .entry)) (now (de .entry)) ⌝ }
+    ensures pivots { λ r. ⌜ now (dp .exit) ≡ cutLeavesPivots true (now (pivots .entry)) (now (edges .entry)) (now (key .entry)) (now (dp .entry)) (now (de .entry)) ⌝ }
+    ensures edges { λ r. ⌜ now (de .exit) ≡ cutLeavesEdges true (now (pivots .entry)) (now (edges .entry)) (now (key .entry)) (now (dp .entry)) (now (de .entry)) ⌝ }
+{
+    cut(pivots, edges, key, true, dp, de)
+}
+
+// SplitRight with SplitRightEdges: the key and the pivots above it, and their edges, at the heads of the two
+// destinations. Answers the number of pivots. Refuses 1, 2, 3, 4, 5, 8 and 10.
+pub fn split_right(pivots: &[u8], edges: &[u8], key: &[u8], dp: &mut [u8], de: &mut [u8]) -> Answer
+    ensures answered { λ r. ⌜ r ≡ cutAnswer false (now (pivots .entry)) (now (edges .entry)) (now (key .entry)) (now (dp .entry)) (now (de .entry)) ⌝ }
+    ensures pivots { λ r. ⌜ now (dp .exit) ≡ cutLeavesPivots false (now (pivots .entry)) (now (edges .entry)) (now (key .entry)) (now (dp .entry)) (now (de .entry)) ⌝ }
+    ensures edges { λ r. ⌜ now (de .exit) ≡ cutLeavesEdges false (now (pivots .entry)) (now (edges .entry)) (now (key .entry)) (now (dp .entry)) (now (de .entry)) ⌝ }
+{
+    cut(pivots, edges, key, false, dp, de)
+}

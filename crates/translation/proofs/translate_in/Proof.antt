@@ -1,0 +1,82 @@
+-- `translation::translate_in` meets its contract.
+use Rattle.model.proofs.Lists.{part-counts}
+use Rattle.model.proofs.CutBytes.{cut-next-fits}
+use Rattle.translation.proofs.Translating.{kept-answer, kept-written, changed-answer, changed-written}
+use borrow.Author.Needs.{needs}
+use Rattle.translation.proofs.translate_in.Statement.{statement}
+use Rattle.translation.proofs.translate_in.Tie as tie
+
+ruleset rules = (needs, part-counts, cut-next-fits, kept-answer, kept-written, changed-answer, changed-written)
+
+record-at-requires : tie.Need-record-at-requires
+record-at-requires c κs = search rules
+
+is-no-edge-requires : tie.Need-is-no-edge-requires
+is-no-edge-requires c κs = search rules
+
+slice-aggregate-change-prefix : tie.Need-slice-aggregate-change-prefix
+slice-aggregate-change-prefix c = search rules
+
+slice-aggregate-change-prefix-2 : tie.Need-slice-aggregate-change-prefix-2
+slice-aggregate-change-prefix-2 c = search rules
+
+change-prefix-requires : tie.Need-change-prefix-requires
+change-prefix-requires c κs = search rules
+
+same-length : tie.Need-same-length
+same-length c = search rules
+
+returns : tie.Need-returns
+returns c = (search rules, search rules)
+
+record-at-requires-2 : tie.Need-record-at-requires-2
+record-at-requires-2 c κs = search rules
+
+key-bytes-requires : tie.Need-key-bytes-requires
+key-bytes-requires c κs = search rules
+
+add-record-at : tie.Need-add-record-at
+add-record-at c = search rules
+
+record-at-requires-3 : tie.Need-record-at-requires-3
+record-at-requires-3 c κs = search rules
+
+range-prefix-len-requires : tie.Need-range-prefix-len-requires
+range-prefix-len-requires c κs = search rules
+
+slice-aggregate-change-prefix-3 : tie.Need-slice-aggregate-change-prefix-3
+slice-aggregate-change-prefix-3 c = search rules
+
+key-bytes-requires-2 : tie.Need-key-bytes-requires-2
+key-bytes-requires-2 c κs = search rules
+
+change-prefix-requires-2 : tie.Need-change-prefix-requires-2
+change-prefix-requires-2 c κs = search rules
+
+same-length-2 : tie.Need-same-length-2
+same-length-2 c = search rules
+
+returns-2 : tie.Need-returns-2
+returns-2 c = (search rules, search rules)
+
+pub translate-in-spec : {M : Type 1} → statement M
+translate-in-spec =
+    tie.close
+    (tie.spec
+    record-at-requires
+    is-no-edge-requires
+    slice-aggregate-change-prefix
+    slice-aggregate-change-prefix-2
+    change-prefix-requires
+    same-length
+    returns
+    record-at-requires-2
+    key-bytes-requires
+    add-record-at
+    record-at-requires-3
+    range-prefix-len-requires
+    slice-aggregate-change-prefix-3
+    key-bytes-requires-2
+    change-prefix-requires-2
+    same-length-2
+    returns-2)
