@@ -136,6 +136,37 @@ uint32_t jd_cutoff_for_left(const uint8_t *pivots, size_t pivots_len,
 uint32_t jd_cutoff_for_right(const uint8_t *pivots, size_t pivots_len,
                              const uint8_t *key, size_t key_len, uint64_t *slot);
 
+/* ---- Cuts of a table with its edges, into two destinations, and the translation of a key. A
+ * refusal writes to neither destination. */
+
+/* Cuts off what lies from the key on: writes the pivots below the key and the key, and the
+ * edges of these slots. The edge of the slot that is cut goes on with what the range's prefix
+ * gains. The key is above the first pivot and not above the last. Answers the pivots written;
+ * the edges written are one fewer. Refuses JD_SHAPE, JD_MALFORMED, JD_UNSORTED,
+ * JD_EMPTY_PREFIX, JD_OUT_OF_RANGE, JD_TOO_LONG, JD_NO_ROOM. */
+uint32_t jd_split_left(const uint8_t *pivots, size_t pivots_len,
+                       const uint8_t *edges, size_t edges_len,
+                       const uint8_t *key, size_t key_len,
+                       uint8_t *dest_pivots, size_t dest_pivots_len,
+                       uint8_t *dest_edges, size_t dest_edges_len, uint64_t *written);
+
+/* Cuts off what lies below the key: writes the key and the pivots above it, and the edges of
+ * these slots, the first one's as in jd_split_left. The key is not below the first pivot and
+ * below the last. Answers and refuses as jd_split_left does. */
+uint32_t jd_split_right(const uint8_t *pivots, size_t pivots_len,
+                        const uint8_t *edges, size_t edges_len,
+                        const uint8_t *key, size_t key_len,
+                        uint8_t *dest_pivots, size_t dest_pivots_len,
+                        uint8_t *dest_edges, size_t dest_edges_len, uint64_t *written);
+
+/* Writes the key with its slot's edge in place of the range's prefix, or the key itself where
+ * the slot has no edge; answers its length. Refuses JD_SHAPE, JD_MALFORMED, JD_UNSORTED,
+ * JD_EMPTY_PREFIX, JD_OUT_OF_RANGE, JD_TOO_LONG, JD_NO_ROOM. */
+uint32_t jd_translate_key(const uint8_t *pivots, size_t pivots_len,
+                          const uint8_t *edges, size_t edges_len,
+                          const uint8_t *key, size_t key_len,
+                          uint8_t *dest, size_t dest_len, uint64_t *length);
+
 #ifdef __cplusplus
 }
 #endif

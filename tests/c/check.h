@@ -24,9 +24,9 @@ typedef struct {
 
 static unsigned passed, failed;
 
-static inline void count(int holds, const char *name)
+static inline void count(int good, const char *name)
 {
-    if (holds) {
+    if (good) {
         passed++;
     } else {
         failed++;
@@ -47,21 +47,31 @@ static inline void result(const char *name, uint32_t got, uint64_t number, uint3
 /* A destination with guards, all of it filled before a call. */
 static uint8_t room[GUARD + ROOM + GUARD];
 
-static inline uint8_t *fresh(void)
+static inline uint8_t *refill(uint8_t *guarded, size_t size)
 {
-    memset(room, BEFORE, sizeof room);
-    return room + GUARD;
+    memset(guarded, BEFORE, size);
+    return guarded + GUARD;
 }
 
-/* The destination begins with what was written, and no other byte has changed. */
-static inline void left(const char *name, slice written)
+static inline uint8_t *fresh(void)
+{
+    return refill(room, sizeof room);
+}
+
+/* Whether the destination begins with what was written, and no other byte has changed. */
+static inline int holds(const uint8_t *guarded, size_t size, slice written)
 {
     size_t changed = 0;
-    for (size_t i = 0; i < sizeof room; i++) {
+    for (size_t i = 0; i < size; i++) {
         int inside = i >= GUARD && i < GUARD + written.length;
-        changed += room[i] != (inside ? written.bytes[i - GUARD] : BEFORE);
+        changed += guarded[i] != (inside ? written.bytes[i - GUARD] : BEFORE);
     }
-    count(changed == 0, name);
+    return changed == 0;
+}
+
+static inline void left(const char *name, slice written)
+{
+    count(holds(room, sizeof room, written), name);
 }
 
 /* Writes a record with this length field and these bytes. */

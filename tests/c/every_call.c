@@ -1,8 +1,9 @@
 /*
  * Each function on single keys from C: a normal case, each of its refusals, and which refusal
- * comes first where two apply. Around every destination stand bytes that must not change.
+ * comes first where two apply. Around every destination stand bytes that must not change. Then a
+ * key's way through a table: cuts and translations, whose refusals are in cuts.c.
  */
-#include "check.h"
+#include "table.h"
 
 /* ---- compare */
 
@@ -165,6 +166,22 @@ static void shortest_uncommon_prefix_checks(void)
     bound("bound: 2 before 10", over, 0, JD_MALFORMED, none);
 }
 
+/* ---- a key's way: T is cut from both sides, and the key is translated before and after */
+
+static void key_through_t(void)
+{
+    pair t = {pivots_of_t(), edges_of_t()};
+    pair right = {TABLE(key(BYTES("A1")), key(BYTES("A5")), key(BYTES("B"))), edges_of_t()};
+    pair both = {TABLE(key(BYTES("A1")), key(BYTES("A2"))), key(BYTES("C1"))};
+    translate("translate_key: in T", t, BYTES("A17"), 3, 0, BYTES("C17"));
+    cut("split_right: T", jd_split_right, t, BYTES("A1"), ample, 0, right);
+    cut("split_left: what that left", jd_split_left, right, BYTES("A2"), ample, 0, both);
+    translate("translate_key: in what was left", both, BYTES("A17"), 3, 0, BYTES("C17"));
+    cut("split_right: 5", jd_split_right, t, BYTES("B"), ample, JD_OUT_OF_RANGE, nothing);
+    cut("split_left: 5", jd_split_left, t, BYTES("A0"), ample, JD_OUT_OF_RANGE, nothing);
+    translate("translate_key: 5", t, BYTES("B"), ROOM, JD_OUT_OF_RANGE, none);
+}
+
 int main(void)
 {
     compare_checks();
@@ -173,5 +190,6 @@ int main(void)
     change_prefix_checks();
     pivot_lcp_checks();
     shortest_uncommon_prefix_checks();
+    key_through_t();
     return report();
 }

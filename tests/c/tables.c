@@ -2,62 +2,7 @@
  * Each function on tables from C: a normal case, each of its refusals, and which refusal comes
  * first where two apply, over all arguments.
  */
-#include "check.h"
-
-#define TABLE(...) \
-    table((slice[]){__VA_ARGS__}, sizeof((slice[]){__VA_ARGS__}) / sizeof(slice))
-
-/* The last 64 tables made stand side by side, more than a check uses. */
-static uint8_t *next_table(void)
-{
-    static uint8_t tables[64][(JD_MAX_PIVOTS + 2) * JD_RECORD_SIZE];
-    static unsigned next;
-    return tables[next++ % 64];
-}
-
-/* These records as one slice. */
-static slice table(const slice *records, size_t count)
-{
-    uint8_t *t = next_table();
-    for (size_t i = 0; i < count; i++)
-        memcpy(t + i * JD_RECORD_SIZE, records[i].bytes, JD_RECORD_SIZE);
-    return (slice){t, count * JD_RECORD_SIZE};
-}
-
-/* This many rising pivots, of one byte each. */
-static slice rising(size_t count)
-{
-    uint8_t *t = next_table();
-    for (size_t i = 0; i < count; i++)
-        put(t + i * JD_RECORD_SIZE, 1, (slice){(const uint8_t[]){(uint8_t)(i + 1)}, 1});
-    return (slice){t, count * JD_RECORD_SIZE};
-}
-
-/* This many absent edges. */
-static slice absent(size_t count)
-{
-    uint8_t *t = next_table();
-    for (size_t i = 0; i < count; i++)
-        put(t + i * JD_RECORD_SIZE, JD_NO_EDGE, none);
-    return (slice){t, count * JD_RECORD_SIZE};
-}
-
-/* Table T's pivots: A0, A5, B. Its edges are C and none. */
-static slice pivots_of_t(void)
-{
-    return TABLE(key(BYTES("A0")), key(BYTES("A5")), key(BYTES("B")));
-}
-
-/* Pivots that fall, and such with a malformed record at the end. */
-static slice falling(void)
-{
-    return TABLE(key(BYTES("B")), key(BYTES("A")), key(BYTES("C")));
-}
-
-static slice falling_and_wrong(void)
-{
-    return TABLE(key(BYTES("B")), key(BYTES("A")), record(65, none));
-}
+#include "table.h"
 
 /* ---- well formed */
 

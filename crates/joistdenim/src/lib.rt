@@ -1,9 +1,13 @@
 // The boundary for C and Rust. Each function answers what the call below it does: 0 or the refusal's number,
 // and the value through its last parameter, which a refusal leaves as it was. No public function has a `requires`.
+mod of_cuts;
 mod of_keys;
 mod of_tables;
 mod tell;
 
+pub use of_cuts::jd_split_left;
+pub use of_cuts::jd_split_right;
+pub use of_cuts::jd_translate_key;
 pub use of_keys::jd_change_prefix;
 pub use of_keys::jd_compare;
 pub use of_keys::jd_entry_key;

@@ -17,26 +17,44 @@ pub struct Call {
     /// The slices, in the order of the C function.
     pub arguments: &'static [(&'static str, Kind)],
     pub takes_place: bool,
-    pub writes: bool,
+    /// The destinations, none to two, after the slices.
+    pub dests: &'static [&'static str],
     pub archive: fn(&Asked, &mut Lent) -> u32,
-    /// As C does it: the status returned, the destination and the number changed in place.
-    pub reference: fn(&Asked, &mut [u8], &mut u64) -> u32,
+    /// As C does it: the status returned, the destinations and the number changed in place.
+    pub reference: fn(&Asked, Dests, &mut u64) -> u32,
 }
+
+pub const MOST_DESTS: usize = 2;
+
+/// The destinations of one case, to be written to; one that the call doesn't have is empty.
+pub type Dests<'a> = [&'a mut [u8]; MOST_DESTS];
 
 /// The arguments of one case; a call that has no place or destination doesn't look at it.
 #[derive(Clone, Copy)]
 pub struct Asked<'a> {
     pub slices: &'a [&'a [u8]],
     pub place: u64,
-    pub dest: usize,
+    /// The destinations' lengths.
+    pub dests: [usize; MOST_DESTS],
 }
 
 impl<'a> Asked<'a> {
     pub fn new(slices: &'a [&'a [u8]], place: u64, dest: usize) -> Self {
+        let dests = [dest, 0];
         Asked {
             slices,
             place,
-            dest,
+            dests,
+        }
+    }
+
+    /// A case without a place, with destinations of these lengths.
+    pub fn with_dests(slices: &'a [&'a [u8]], dests: [usize; MOST_DESTS]) -> Self {
+        let place = 0;
+        Asked {
+            slices,
+            place,
+            dests,
         }
     }
 }
@@ -45,7 +63,7 @@ impl<'a> Asked<'a> {
 pub struct Seen<'a> {
     pub status: u32,
     pub number: u64,
-    pub dest: &'a [u8],
+    pub dests: [&'a [u8]; MOST_DESTS],
 }
 
 pub struct Hex<'a>(pub &'a [u8]);
@@ -64,7 +82,12 @@ impl fmt::Display for Seen<'_> {
             number if is_as_before(number) => write!(f, ", number as it was")?,
             number => write!(f, ", number {}", number as i64)?,
         }
-        write!(f, ", left {}", Hex(self.dest))
+        let [first, second] = self.dests;
+        write!(f, ", left {}", Hex(first))?;
+        match second {
+            [] => Ok(()),
+            _ => write!(f, " and {}", Hex(second)),
+        }
     }
 }
 
@@ -80,8 +103,8 @@ impl Call {
         if self.takes_place {
             parts.push(format!("place {}", asked.place));
         }
-        if self.writes {
-            parts.push(format!("dest of {}", asked.dest));
+        for (name, len) in self.dests.iter().zip(asked.dests) {
+            parts.push(format!("{name} of {len}"));
         }
         format!("{}({})", self.name, parts.join(", "))
     }

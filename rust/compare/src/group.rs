@@ -1,5 +1,5 @@
 //! A group of cases: one test.
-use crate::call::{Asked, Call, Seen};
+use crate::call::{Asked, Call, Seen, MOST_DESTS};
 use crate::lent::{before, number_before, Lent};
 
 /// What is written down by hand for a case.
@@ -9,6 +9,8 @@ pub enum Wanted<'a> {
     Taken,
     /// The number, and what stands at the head of the destination.
     Answer(i64, &'a [u8]),
+    /// The number, and what stands at the heads of two destinations.
+    Answers(i64, [&'a [u8]; MOST_DESTS]),
 }
 
 #[derive(Default)]
@@ -16,7 +18,7 @@ pub struct Group {
     cases: u64,
     failure: Option<String>,
     lent: Lent,
-    reference: Vec<u8>,
+    reference: [Vec<u8>; MOST_DESTS],
 }
 
 impl Group {
@@ -25,7 +27,7 @@ impl Group {
         self.compare(call, slices, 0);
     }
 
-    /// One case: status, number, every byte of the destination and around it, and every
+    /// One case: status, number, every byte of the destinations and around them, and every
     /// argument must be what the reference leaves.
     pub fn compare(&mut self, call: &Call, slices: &[&[u8]], dest: usize) {
         let place = 0;
@@ -49,18 +51,21 @@ impl Group {
         let salt = self.cases as u8;
         self.lent.fill(asked, salt);
         let status = (call.archive)(asked, &mut self.lent);
-        self.reference.clear();
-        self.reference.extend_from_slice(before(asked.dest, salt));
+        for (which, dest) in self.reference.iter_mut().enumerate() {
+            dest.clear();
+            dest.extend_from_slice(before(which, asked.dests[which], salt));
+        }
         let mut number = number_before(salt);
+        let dests = self.reference.each_mut().map(Vec::as_mut_slice);
         let reference = Seen {
-            status: (call.reference)(asked, &mut self.reference, &mut number),
+            status: (call.reference)(asked, dests, &mut number),
             number,
-            dest: &self.reference,
+            dests: self.reference.each_ref().map(Vec::as_slice),
         };
         let archive = Seen {
             status,
             number: self.lent.number(),
-            dest: self.lent.left_in_dest(),
+            dests: self.lent.left_in_dests(),
         };
         let fault = fault(&archive, &reference, wanted, salt)
             .or_else(|| (!self.lent.is_whole(asked, salt)).then_some("bytes around it changed"));
@@ -108,22 +113,30 @@ fn fault(
     if archive.number != reference.number {
         return Some("the number differs");
     }
-    if archive.dest != reference.dest {
+    if archive.dests != reference.dests {
         return Some("the destination differs");
     }
-    let was = before(archive.dest.len(), salt);
-    if archive.status != 0 && (archive.number != number_before(salt) || archive.dest != was) {
+    let was = [0, 1].map(|which| before(which, archive.dests[which].len(), salt));
+    if archive.status != 0 && (archive.number != number_before(salt) || archive.dests != was) {
         return Some("a refusal changed something");
     }
+    let answered = |number: i64, heads: [&[u8]; MOST_DESTS]| {
+        let accepted = archive.status == 0 && archive.number == number as u64;
+        accepted && (0..MOST_DESTS).all(|i| begins(archive.dests[i], heads[i], was[i]))
+    };
     let as_written_down = match wanted {
         None => true,
         Some(Wanted::Refusal(status)) => archive.status == *status,
         Some(Wanted::Taken) => archive.status == 0 && archive.number == number_before(salt),
-        Some(Wanted::Answer(number, head)) => {
-            let (written, rest) = archive.dest.split_at(head.len());
-            let accepted = archive.status == 0 && archive.number == *number as u64;
-            accepted && written == *head && *rest == was[head.len()..]
-        }
+        Some(Wanted::Answer(number, head)) => answered(*number, [head, &[]]),
+        Some(Wanted::Answers(number, heads)) => answered(*number, *heads),
     };
     (!as_written_down).then_some("not what is written down")
+}
+
+/// Whether a destination begins with what was written, and goes on as it was.
+fn begins(dest: &[u8], head: &[u8], was: &[u8]) -> bool {
+    dest.len() >= head.len()
+        && dest[..head.len()] == *head
+        && dest[head.len()..] == was[head.len()..]
 }

@@ -35,7 +35,7 @@ pub static COMPARE: Call = Call {
     name: "compare",
     arguments: &[("a", Kind::Record), ("b", Kind::Record)],
     takes_place: false,
-    writes: false,
+    dests: &[],
     archive: |_: &Asked, lent: &mut Lent| {
         let [a, b, _] = lent.slices();
         unsafe { raw::jd_compare(a.at, a.len, b.at, b.len, lent.answer().cast()) }
@@ -50,7 +50,7 @@ pub static PIVOT_KEY: Call = Call {
     name: "pivot_key",
     arguments: &[("record", Kind::Record)],
     takes_place: false,
-    writes: false,
+    dests: &[],
     archive: |_, lent| {
         let [record, ..] = lent.slices();
         unsafe { raw::jd_pivot_key(record.at, record.len, lent.answer()) }
@@ -62,7 +62,7 @@ pub static ENTRY_KEY: Call = Call {
     name: "entry_key",
     arguments: &[("entry", Kind::Entry)],
     takes_place: false,
-    writes: false,
+    dests: &[],
     archive: |_, lent| {
         let [entry, ..] = lent.slices();
         unsafe { raw::jd_entry_key(entry.at, entry.len, lent.answer()) }
@@ -74,7 +74,7 @@ pub static CHANGE_PREFIX: Call = Call {
     name: "change_prefix",
     arguments: &[("key", Kind::Key), ("old", Kind::Key), ("new", Kind::Key)],
     takes_place: false,
-    writes: true,
+    dests: &["dest"],
     archive: |_, lent| {
         let [key, old, new] = lent.slices();
         let dest = lent.dest();
@@ -92,7 +92,7 @@ pub static CHANGE_PREFIX: Call = Call {
             )
         }
     },
-    reference: |asked, dest, number| {
+    reference: |asked, [dest, _], number| {
         let [key, old, new] = asked.slices else {
             unreachable!("change_prefix has three slices")
         };
@@ -105,7 +105,7 @@ pub static PIVOT_LCP: Call = Call {
     name: "pivot_lcp",
     arguments: &[("left", Kind::Key), ("right", Kind::Record)],
     takes_place: false,
-    writes: false,
+    dests: &[],
     archive: |_, lent| {
         let [left, right, _] = lent.slices();
         unsafe { raw::jd_pivot_lcp(left.at, left.len, right.at, right.len, lent.answer()) }
@@ -120,7 +120,7 @@ pub static SHORTEST_UNCOMMON_PREFIX: Call = Call {
     name: "shortest_uncommon_prefix",
     arguments: &[("prefix", Kind::Key)],
     takes_place: false,
-    writes: true,
+    dests: &["dest"],
     archive: |_, lent| {
         let [prefix, ..] = lent.slices();
         let dest = lent.dest();
@@ -134,7 +134,7 @@ pub static SHORTEST_UNCOMMON_PREFIX: Call = Call {
             )
         }
     },
-    reference: |asked, dest, number| {
+    reference: |asked, [dest, _], number| {
         let written = reference::shortest_uncommon_prefix(asked.slices[0], dest);
         tell(written.map(|written| written as u64), number)
     },

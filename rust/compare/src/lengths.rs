@@ -1,7 +1,7 @@
-//! One group for each call: slices of every length from 0 to 140 in each argument and in the
+//! One group for each call: slices of every length from 0 to 140 in each argument and in a lone
 //! destination, beside good and bad slices in the others. So every order of causes over the
 //! arguments comes up.
-use crate::call::{Asked, Call, Kind};
+use crate::call::{Asked, Call, Kind, MOST_DESTS};
 use crate::group::Group;
 use crate::inputs::{counted, entry, field_record, record, MAX, NO_EDGE};
 use crate::tables::inputs::{usual_edges, usual_pivots};
@@ -14,7 +14,11 @@ pub fn usual(kind: Kind) -> Vec<Vec<u8>> {
     let marks = [MAX, NO_EDGE, 65].map(field_record);
     let records = records.iter().chain(&marks);
     match kind {
-        Kind::Key => [0, 1, 2, 63, 64, 65].map(counted).to_vec(),
+        Kind::Key => {
+            let mut keys = [0, 1, 2, 63, 64, 65].map(counted).to_vec();
+            keys.push(vec![0x41, 0x31]);
+            keys
+        }
         Kind::Record => {
             let wrong = [0, 65, 67].map(|len| vec![0; len]);
             records.map(|r| r.to_vec()).chain(wrong).collect()
@@ -37,7 +41,12 @@ const PLACES: [u64; 9] = [0, 1, 2, 3, 63, 64, 65, 1 << 32, u64::MAX];
 
 /// All ways to choose one slice for each argument, with the destinations given, and with places
 /// where the call takes one.
-pub fn choices(group: &mut Group, call: &Call, slices: &[Vec<Vec<u8>>], dests: &[usize]) {
+pub fn choices(
+    group: &mut Group,
+    call: &Call,
+    slices: &[Vec<Vec<u8>>],
+    dests: &[[usize; MOST_DESTS]],
+) {
     let ways: usize = slices.iter().map(Vec::len).product();
     for way in 0..ways {
         let mut left = way;
@@ -51,9 +60,14 @@ pub fn choices(group: &mut Group, call: &Call, slices: &[Vec<Vec<u8>>], dests: &
             .collect();
         let slices = &chosen[..];
         let places = if call.takes_place { &PLACES[..] } else { &[0] };
-        for &dest in dests {
+        for &dests in dests {
             for &place in places {
-                group.case(call, &Asked::new(slices, place, dest));
+                let asked = Asked {
+                    slices,
+                    place,
+                    dests,
+                };
+                group.case(call, &asked);
             }
         }
     }
@@ -65,10 +79,10 @@ pub fn every_length(group: &mut Group, call: &Call) {
         .iter()
         .map(|(_, kind)| usual(*kind))
         .collect();
-    let dests: &[usize] = if call.writes {
-        &[0, 1, 64, 65, 66]
-    } else {
-        &[0]
+    let dests: &[[usize; MOST_DESTS]] = match call.dests.len() {
+        0 => &[[0, 0]],
+        1 => &[[0, 0], [1, 0], [64, 0], [65, 0], [66, 0]],
+        _ => &[[0, 0], [131, 66], [132, 65], [300, 300]],
     };
     for argument in 0..usual.len() {
         let mut slices = usual.clone();
@@ -77,8 +91,8 @@ pub fn every_length(group: &mut Group, call: &Call) {
             choices(group, call, &slices, dests);
         }
     }
-    if call.writes {
-        let every: Vec<usize> = (0..=LONGEST).collect();
+    if call.dests.len() == 1 {
+        let every: Vec<_> = (0..=LONGEST).map(|dest| [dest, 0]).collect();
         choices(group, call, &usual, &every);
     }
 }

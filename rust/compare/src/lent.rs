@@ -1,6 +1,6 @@
 //! What is lent to one call of the archive, with guard bytes around each slice and around the
 //! number behind the pointer.
-use crate::call::Asked;
+use crate::call::{Asked, MOST_DESTS};
 use std::sync::OnceLock;
 
 const GUARD: usize = 16;
@@ -53,7 +53,7 @@ pub struct Dest {
 
 pub struct Lent {
     slices: [Guarded; MOST_SLICES],
-    dest: Guarded,
+    dests: [Guarded; MOST_DESTS],
     answer: [u64; 3],
 }
 
@@ -66,7 +66,7 @@ impl Default for Lent {
         };
         Lent {
             slices: std::array::from_fn(|_| empty()),
-            dest: empty(),
+            dests: std::array::from_fn(|_| empty()),
             answer: [0; 3],
         }
     }
@@ -77,7 +77,9 @@ impl Lent {
         for (slice, content) in self.slices.iter_mut().zip(asked.slices) {
             slice.fill(content, ARGUMENT_GUARD);
         }
-        self.dest.fill(before(asked.dest, salt), !salt);
+        for (which, dest) in self.dests.iter_mut().enumerate() {
+            dest.fill(before(which, asked.dests[which], salt), !salt);
+        }
         self.answer = [number_before(salt); 3];
     }
 
@@ -89,11 +91,17 @@ impl Lent {
         })
     }
 
+    /// The destination of a call that has one.
     pub fn dest(&mut self) -> Dest {
-        Dest {
-            at: self.dest.pointer(),
-            len: self.dest.content().len(),
-        }
+        let [dest, _] = self.dests();
+        dest
+    }
+
+    pub fn dests(&mut self) -> [Dest; MOST_DESTS] {
+        self.dests.each_mut().map(|dest| Dest {
+            at: dest.pointer(),
+            len: dest.content().len(),
+        })
     }
 
     /// The pointer for the answer; to be taken last, after the slices.
@@ -105,15 +113,15 @@ impl Lent {
         self.answer[1]
     }
 
-    pub fn left_in_dest(&self) -> &[u8] {
-        self.dest.content()
+    pub fn left_in_dests(&self) -> [&[u8]; MOST_DESTS] {
+        self.dests.each_ref().map(Guarded::content)
     }
 
-    /// Whether every lent byte but the destination's own, and every guard, is as it was.
+    /// Whether every lent byte but the destinations' own, and every guard, is as it was.
     pub fn is_whole(&self, asked: &Asked, salt: u8) -> bool {
         let mut arguments = self.slices.iter().zip(asked.slices);
         arguments.all(|(lent, content)| lent.content() == *content && lent.is_whole())
-            && self.dest.is_whole()
+            && self.dests.iter().all(Guarded::is_whole)
             && self.answer[0] == number_before(salt)
             && self.answer[2] == number_before(salt)
     }
@@ -130,14 +138,15 @@ pub fn is_as_before(number: u64) -> bool {
     number & !0xFF == NUMBER_BEFORE
 }
 
-/// What stands in a destination before a call. It differs from case to case, so that a byte
-/// written can't always be the byte that was there.
-pub fn before(len: usize, salt: u8) -> &'static [u8] {
+/// What stands in the first or the second destination before a call. It differs from case to
+/// case, so that a byte written can't always be the byte that was there.
+pub fn before(which: usize, len: usize, salt: u8) -> &'static [u8] {
     const MOST: usize = 8192;
     static PATTERN: OnceLock<Vec<u8>> = OnceLock::new();
     let pattern = PATTERN.get_or_init(|| {
         let mut random = crate::inputs::Xorshift::new(0x5EED);
-        (0..MOST).map(|_| random.next() as u8).collect()
+        let bytes = (0..MOST_DESTS * MOST).map(|_| random.next() as u8);
+        bytes.collect()
     });
-    &pattern[usize::from(salt)..][..len]
+    &pattern[which * MOST..][usize::from(salt)..][..len]
 }

@@ -2,6 +2,7 @@
 //! 'N passed, M failed' over the groups; the status is 1 where one failed.
 mod call;
 mod changes;
+mod cuts;
 mod group;
 mod inputs;
 mod key_calls;
@@ -93,6 +94,7 @@ fn main() -> ExitCode {
         tests_of_one_call(),
         tests_of_every_call(),
         tables::tests(),
+        cuts::tests(),
     ];
     for test in tests.into_iter().flatten() {
         let mut group = Group::default();

@@ -1,13 +1,13 @@
 //! One group for each call: random slices, the same in every run. The slices of a case come from
 //! one random key, so that they often begin alike; some are changed or are random bytes alone.
-use crate::call::{Asked, Call, Kind};
+use crate::call::{Asked, Call, Kind, MOST_DESTS};
 use crate::group::Group;
 use crate::inputs::{entry, field_record, record, Xorshift, BYTES, MAX, NO_EDGE};
 use crate::tables::inputs::{random_edges, random_pivots};
 
 const SEED: u64 = 20_250_627;
 
-fn random_bytes(random: &mut Xorshift, len: usize) -> Vec<u8> {
+pub fn random_bytes(random: &mut Xorshift, len: usize) -> Vec<u8> {
     (0..len).map(|_| random.next() as u8).collect()
 }
 
@@ -81,9 +81,18 @@ pub fn cases(group: &mut Group, call: &Call, count: usize) {
             .map(|(_, kind)| slice(&mut random, *kind, &base))
             .collect();
         let slices: Vec<&[u8]> = slices.iter().map(|slice| &slice[..]).collect();
-        let dest = if call.writes { random.below(141) } else { 0 };
+        let longest = if call.dests.len() < 2 { 141 } else { 600 };
+        let mut dests = [0; MOST_DESTS];
+        for len in dests.iter_mut().take(call.dests.len()) {
+            *len = random.below(longest);
+        }
         let place = random.below(8) as u64;
         let slices = &slices[..];
-        group.case(call, &Asked::new(slices, place, dest));
+        let asked = Asked {
+            slices,
+            place,
+            dests,
+        };
+        group.case(call, &asked);
     }
 }

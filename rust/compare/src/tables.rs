@@ -1,7 +1,7 @@
 //! Groups for the calls on tables.
 mod by_hand;
-mod calls;
-mod faults;
+pub mod calls;
+pub mod faults;
 pub mod inputs;
 mod small;
 mod wrapper;
@@ -18,7 +18,9 @@ pub fn tests() -> Vec<Test> {
         test("init_pivot_table: every length", small::first_table),
         test("contains_range: small tables", small::ranges),
         test("wf_edges: small tables", small::edges),
-        test("wf_edges: each edge of 63", faults::each_edge),
+        test("wf_edges: each edge of 63", |group| {
+            faults::each_edge(group, &calls::WF_EDGES)
+        }),
         test("wrapper: tables", wrapper::tables),
     ];
     for call in calls::OF_PIVOTS {

@@ -12,11 +12,13 @@
 //! # Ok::<(), joistdenim::Refusal>(())
 //! ```
 
+mod cuts;
 mod keys;
 pub mod raw;
 mod refusal;
 mod tables;
 
+pub use cuts::{split_left, split_right, translate_key};
 pub use keys::{change_prefix, compare, entry_key, pivot_key, pivot_lcp, shortest_uncommon_prefix};
 pub use refusal::Refusal;
 pub use tables::{

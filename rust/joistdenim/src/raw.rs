@@ -3,7 +3,9 @@
 //! Each returns 0 or a refusal's number and answers through its last pointer. The pointers must
 //! not be null and must be good for their lengths, and what is written overlaps nothing else.
 
+mod cuts;
 mod tables;
+pub use cuts::*;
 pub use tables::*;
 
 extern "C" {

@@ -6,7 +6,11 @@
 //! argument, and so on.
 #![forbid(unsafe_code)]
 
+#[cfg(test)]
+mod cut_tests;
+mod cuts;
 mod keys;
+mod plain_cut;
 mod range_prefix;
 mod record;
 mod refusal;
@@ -14,9 +18,14 @@ mod table;
 mod table_calls;
 #[cfg(test)]
 mod table_tests;
+#[cfg(test)]
+mod test_tables;
+mod translation;
 mod upper_bound;
 
+pub use cuts::{split_left, split_right};
 pub use keys::{change_prefix, compare, entry_key, pivot_key};
+pub use plain_cut::{plain_cut, PlainCut};
 pub use range_prefix::{pivot_lcp, range_prefix};
 pub use record::{Edge, Element, ENTRY_SIZE, MAX_LEN, RECORD_SIZE};
 pub use refusal::Refusal;
@@ -25,4 +34,5 @@ pub use table_calls::{
     bounded_key, contains_all_keys, contains_range, cutoff_for_left, cutoff_for_right, get_key,
     init_pivot_table, pivot_insertable, route, valid_left_cut_off_key, wf_edges, wf_pivots,
 };
+pub use translation::translate_key;
 pub use upper_bound::{shortest_uncommon_prefix, upper_bound};

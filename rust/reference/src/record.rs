@@ -86,20 +86,31 @@ pub(crate) fn edge(record: &Record) -> Result<Edge<'_>, Refusal> {
     }
 }
 
+/// Writes a record with this length field and these bytes at the head of `dest`: cause 10.
+fn put(field: u16, bytes: &[u8], dest: &mut [u8]) -> Result<(), Refusal> {
+    let record = dest.get_mut(..RECORD_SIZE).ok_or(Refusal::NoRoom)?;
+    record.fill(0);
+    record[..2].copy_from_slice(&field.to_be_bytes());
+    record[2..2 + bytes.len()].copy_from_slice(bytes);
+    Ok(())
+}
+
 impl Element<'_> {
     /// Writes the element's record at the head of `dest`: cause 10.
     pub(crate) fn put(&self, dest: &mut [u8]) -> Result<(), Refusal> {
-        let record = dest.get_mut(..RECORD_SIZE).ok_or(Refusal::NoRoom)?;
-        let (field, bytes) = record.split_at_mut(2);
-        bytes.fill(0);
-        let length = match self {
-            Element::Key(key) => {
-                bytes[..key.len()].copy_from_slice(key);
-                key.len() as u16
-            }
-            Element::Max => MAX,
-        };
-        field.copy_from_slice(&length.to_be_bytes());
-        Ok(())
+        match self {
+            Element::Key(key) => put(key.len() as u16, key, dest),
+            Element::Max => put(MAX, &[], dest),
+        }
+    }
+}
+
+impl Edge<'_> {
+    /// Writes the edge's record at the head of `dest`: cause 10.
+    pub(crate) fn put(&self, dest: &mut [u8]) -> Result<(), Refusal> {
+        match self {
+            Edge::To(prefix) => put(prefix.len() as u16, prefix, dest),
+            Edge::Absent => put(NO_EDGE, &[], dest),
+        }
     }
 }

@@ -60,13 +60,22 @@ impl<'a> Pivots<'a> {
 
     /// Cause 4: an edge where the range's prefix is ε.
     pub(crate) fn fit(&self, edges: &[Edge]) -> Result<(), Refusal> {
-        let prefixless = self.0.windows(2).zip(edges).any(|(range, edge)| {
-            let (Element::Key(left), Edge::To(_)) = (range[0], edge) else {
-                return false;
-            };
-            range_prefix(left, range[1]).is_empty()
-        });
+        let mut slots = edges.iter().enumerate();
+        let prefixless =
+            slots.any(|(slot, edge)| *edge != Edge::Absent && self.slot_prefix(slot).is_empty());
         refuse_if(prefixless, Refusal::EmptyPrefix)
+    }
+
+    /// The prefix of a slot's range.
+    pub(crate) fn slot_prefix(&self, slot: usize) -> &'a [u8] {
+        match self.0[slot] {
+            Element::Key(left) => range_prefix(left, self.0[slot + 1]),
+            Element::Max => unreachable!("max is no slot's left pivot"),
+        }
+    }
+
+    pub(crate) fn all(&self) -> &[Element<'a>] {
+        &self.0
     }
 
     pub(crate) fn first(&self) -> Element<'a> {
@@ -91,14 +100,18 @@ impl<'a> Pivots<'a> {
         self.first() < key && key <= self.last()
     }
 
-    /// The last place not above: LargestLte.
-    pub(crate) fn largest_lte(&self, key: Element) -> Option<usize> {
-        self.0.iter().rposition(|pivot| *pivot <= key)
+    /// Route: the last place not above, LargestLte, of a bounded key. Cause 5.
+    pub(crate) fn route(&self, key: Element) -> Result<usize, Refusal> {
+        refuse_if(!self.bounds(key), Refusal::OutOfRange)?;
+        let largest_lte = self.0.iter().rposition(|pivot| *pivot <= key);
+        largest_lte.ok_or(Refusal::OutOfRange)
     }
 
-    /// The last place below: LargestLt.
-    pub(crate) fn largest_lt(&self, key: Element) -> Option<usize> {
-        self.0.iter().rposition(|pivot| *pivot < key)
+    /// CutoffForLeft: the last place below, LargestLt, of a key that cuts left. Cause 5.
+    pub(crate) fn cutoff_for_left(&self, key: Element) -> Result<usize, Refusal> {
+        refuse_if(!self.cuts_left(key), Refusal::OutOfRange)?;
+        let largest_lt = self.0.iter().rposition(|pivot| *pivot < key);
+        largest_lt.ok_or(Refusal::OutOfRange)
     }
 
     /// PivotInsertable: with the key at this place, the pivots would still rise.

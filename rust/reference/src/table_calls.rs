@@ -1,5 +1,5 @@
 //! The calls on tables: checks, questions, GetKey, the first table, routing.
-use crate::record::{element, one_record, short, Element, RECORD_SIZE};
+use crate::record::{element, one_record, short, Edge, Element, RECORD_SIZE};
 use crate::refusal::{refuse_if, Refusal};
 use crate::table::{edge_records, pivot_records, read_edges, read_pivots, Pivots, MIN_PIVOTS};
 
@@ -18,6 +18,21 @@ fn pivots_and_key<'a>(
     Ok((Pivots::rising(pivots)?, key))
 }
 
+/// Causes 1 to 4 of pivots, edges and a key; 2 of the key comes before 3.
+pub(crate) fn table_and_key<'a>(
+    pivots: &'a [u8],
+    edges: &'a [u8],
+    key: &'a [u8],
+) -> Result<(Pivots<'a>, Vec<Edge<'a>>, Element<'a>), Refusal> {
+    let pivots = pivot_records(pivots)?;
+    let edges = edge_records(edges, pivots)?;
+    let (pivots, edges) = (read_pivots(pivots)?, read_edges(edges)?);
+    let key = Element::Key(short(key)?);
+    let pivots = Pivots::rising(pivots)?;
+    pivots.fit(&edges)?;
+    Ok((pivots, edges, key))
+}
+
 /// WFPivots: yes, or the number.
 pub fn wf_pivots(pivots: &[u8]) -> Result<(), Refusal> {
     pivots_of(pivots)?;
@@ -26,10 +41,8 @@ pub fn wf_pivots(pivots: &[u8]) -> Result<(), Refusal> {
 
 /// WFEdges: yes, or the number.
 pub fn wf_edges(pivots: &[u8], edges: &[u8]) -> Result<(), Refusal> {
-    let pivots = pivot_records(pivots)?;
-    let edges = edge_records(edges, pivots)?;
-    let (pivots, edges) = (read_pivots(pivots)?, read_edges(edges)?);
-    Pivots::rising(pivots)?.fit(&edges)
+    table_and_key(pivots, edges, &[])?;
+    Ok(())
 }
 
 /// Whether the table goes from ε to max.
@@ -88,15 +101,13 @@ pub fn init_pivot_table(dest: &mut [u8]) -> Result<usize, Refusal> {
 /// Route: the slot of a key, the last pivot not above it.
 pub fn route(pivots: &[u8], key: &[u8]) -> Result<usize, Refusal> {
     let (pivots, key) = pivots_and_key(pivots, key)?;
-    refuse_if(!pivots.bounds(key), Refusal::OutOfRange)?;
-    pivots.largest_lte(key).ok_or(Refusal::OutOfRange)
+    pivots.route(key)
 }
 
 /// CutoffForLeft: the slot that a left cut at the key ends in, the last pivot below it.
 pub fn cutoff_for_left(pivots: &[u8], key: &[u8]) -> Result<usize, Refusal> {
     let (pivots, key) = pivots_and_key(pivots, key)?;
-    refuse_if(!pivots.cuts_left(key), Refusal::OutOfRange)?;
-    pivots.largest_lt(key).ok_or(Refusal::OutOfRange)
+    pivots.cutoff_for_left(key)
 }
 
 /// CutoffForRight: the slot that a right cut at the key begins in, which is the key's.

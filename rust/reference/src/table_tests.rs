@@ -1,36 +1,7 @@
 //! The calls on tables, with results written down by hand.
+use crate::test_tables::{field, max, no_edge, record, t, table};
 use crate::*;
 use Refusal::*;
-
-fn field(field: u16) -> Vec<u8> {
-    let mut record = vec![0; RECORD_SIZE];
-    record[..2].copy_from_slice(&field.to_be_bytes());
-    record
-}
-
-fn record(key: &[u8]) -> Vec<u8> {
-    let mut record = field(key.len() as u16);
-    record[2..2 + key.len()].copy_from_slice(key);
-    record
-}
-
-fn max() -> Vec<u8> {
-    field(65_535)
-}
-
-fn no_edge() -> Vec<u8> {
-    field(65_534)
-}
-
-fn table(keys: &[&[u8]]) -> Vec<u8> {
-    keys.iter().flat_map(|key| record(key)).collect()
-}
-
-/// Document 01's table T: 41 30, 41 35, 42, with edges 43 and none.
-fn t() -> (Vec<u8>, Vec<u8>) {
-    let pivots = table(&[&[0x41, 0x30], &[0x41, 0x35], &[0x42]]);
-    (pivots, [record(&[0x43]), no_edge()].concat())
-}
 
 /// This many pivots, rising.
 fn counted(count: u8) -> Vec<u8> {

@@ -28,14 +28,9 @@ pub fn table_t(group: &mut Group) {
     let first = [record(&[]), field_record(MAX)].concat();
     case(group, &CONTAINS_ALL_KEYS, &[&first], Answer(1, &[]));
     case(group, &WF_EDGES, &[&first, &record(&[0x43])], Refusal(4));
-    let asked = Asked {
-        slices: &[],
-        place: 0,
-        dest: 140,
-    };
-    group.expect(&INIT_PIVOT_TABLE, &asked, &Answer(2, &first));
-    let asked = Asked { dest: 131, ..asked };
-    group.expect(&INIT_PIVOT_TABLE, &asked, &Refusal(10));
+    let into = |dest| Asked::new(&[], 0, dest);
+    group.expect(&INIT_PIVOT_TABLE, &into(140), &Answer(2, &first));
+    group.expect(&INIT_PIVOT_TABLE, &into(131), &Refusal(10));
     let ranges = [
         (&[0x41, 0x30][..], record(&[0x42]), Answer(1, &[])),
         (&[0x41], record(&[0x42]), Answer(0, &[])),

@@ -1,12 +1,13 @@
 //! The calls on tables, in the archive and in the reference.
-use crate::call::{Asked, Call, Kind};
+use crate::call::{Asked, Call, Dests, Kind};
 use crate::key_calls::tell;
 use crate::lent::Lent;
 use joistdenim::raw;
 use reference::Refusal;
 
-const PIVOTS: (&str, Kind) = ("pivots", Kind::Pivots);
-const KEY: (&str, Kind) = ("key", Kind::Key);
+pub const PIVOTS: (&str, Kind) = ("pivots", Kind::Pivots);
+pub const EDGES: (&str, Kind) = ("edges", Kind::Edges);
+pub const KEY: (&str, Kind) = ("key", Kind::Key);
 
 /// The calls whose first argument is pivots.
 pub static OF_PIVOTS: [&Call; 11] = [
@@ -42,7 +43,7 @@ fn yes(result: Result<bool, Refusal>, number: &mut u64) -> u32 {
     tell(result.map(u64::from), number)
 }
 
-fn slot(result: Result<usize, Refusal>, number: &mut u64) -> u32 {
+pub fn slot(result: Result<usize, Refusal>, number: &mut u64) -> u32 {
     tell(result.map(|slot| slot as u64), number)
 }
 
@@ -56,17 +57,17 @@ fn of_key(call: OfKey, lent: &mut Lent) -> u32 {
     unsafe { call(pivots.at, pivots.len, key.at, key.len, lent.answer()) }
 }
 
-const fn call(
+pub const fn call(
     name: &'static str,
     arguments: &'static [(&'static str, Kind)],
     archive: fn(&Asked, &mut Lent) -> u32,
-    reference: fn(&Asked, &mut [u8], &mut u64) -> u32,
+    reference: fn(&Asked, Dests, &mut u64) -> u32,
 ) -> Call {
     Call {
         name,
         arguments,
         takes_place: false,
-        writes: false,
+        dests: &[],
         archive,
         reference,
     }
@@ -84,7 +85,7 @@ pub static WF_PIVOTS: Call = call(
 
 pub static WF_EDGES: Call = call(
     "wf_edges",
-    &[PIVOTS, ("edges", Kind::Edges)],
+    &[PIVOTS, EDGES],
     |_, lent| {
         let [pivots, edges, _] = lent.slices();
         unsafe { raw::jd_wf_edges(pivots.at, pivots.len, edges.at, edges.len) }
@@ -186,7 +187,7 @@ pub static GET_KEY: Call = Call {
 };
 
 pub static INIT_PIVOT_TABLE: Call = Call {
-    writes: true,
+    dests: &["dest"],
     ..call(
         "init_pivot_table",
         &[],
@@ -194,7 +195,7 @@ pub static INIT_PIVOT_TABLE: Call = Call {
             let dest = lent.dest();
             unsafe { raw::jd_init_pivot_table(dest.at, dest.len, lent.answer()) }
         },
-        |_, dest, number| slot(reference::init_pivot_table(dest), number),
+        |_, [dest, _], number| slot(reference::init_pivot_table(dest), number),
     )
 };
 

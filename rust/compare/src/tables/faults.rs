@@ -1,8 +1,7 @@
 //! Tables with one fault: a wrong count, and at each place a wrong mark, a malformed record, the
 //! pivot before it again, or a pivot that falls.
-use super::calls::WF_EDGES;
 use super::inputs::{absent, rising, table, with};
-use crate::call::{Call, Kind};
+use crate::call::{Asked, Call, Kind, MOST_DESTS};
 use crate::group::Group;
 use crate::inputs::{field_record, record, MAX, NO_EDGE};
 use crate::lengths::{choices, usual};
@@ -25,7 +24,13 @@ fn with_pivots(group: &mut Group, call: &Call, pivots: Vec<u8>) {
             other => usual(*other),
         })
         .collect();
-    choices(group, call, &slices, &[0]);
+    let room = [pivots.len(); MOST_DESTS];
+    let dests: &[_] = if call.dests.is_empty() {
+        &[[0, 0]]
+    } else {
+        &[[0, 0], room]
+    };
+    choices(group, call, &slices, dests);
 }
 
 /// From 0 to 66 pivots, whole, one byte short and one byte more.
@@ -69,8 +74,9 @@ fn spoiled(good: &[u8]) -> [u8; 66] {
     bad
 }
 
-/// Every edge of 63 in turn, over pivots that share a prefix and over pivots that share none.
-pub fn each_edge(group: &mut Group) {
+/// Every edge of 63 in turn, over pivots that share a prefix and over pivots that share none, in
+/// a call of pivots and edges, and of a key that both tables have.
+pub fn each_edge(group: &mut Group, call: &Call) {
     let apart: Vec<[u8; 1]> = (0..64).map(|i| [4 * i]).collect();
     let apart: Vec<&[u8]> = apart.iter().map(|key| &key[..]).collect();
     for pivots in [rising(64), table(&apart)] {
@@ -82,7 +88,10 @@ pub fn each_edge(group: &mut Group) {
                 field_record(65),
             ];
             for edge in edges {
-                group.ask(&WF_EDGES, &[&pivots, &with(&absent(63), place, &edge)]);
+                let edges = with(&absent(63), place, &edge);
+                let slices: [&[u8]; 3] = [&pivots, &edges, &[0x41, 0x5E]];
+                let slices = &slices[..call.arguments.len()];
+                group.case(call, &Asked::with_dests(slices, [64 * 66; MOST_DESTS]));
             }
         }
     }

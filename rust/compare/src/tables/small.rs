@@ -72,12 +72,8 @@ pub fn large(group: &mut Group, call: &Call) {
                 0..=0
             };
             for place in places {
-                let asked = Asked {
-                    slices: &slices,
-                    place,
-                    dest: 0,
-                };
-                group.case(call, &asked);
+                let dest = 0;
+                group.case(call, &Asked::new(&slices, place, dest));
             }
         }
     }

@@ -1,0 +1,55 @@
+// The cuts, and the translation of a key.
+use crate::tell::tell;
+ghost use mathlib.Core.Path.{_≡_};
+ghost use mathlib.Core.Bool.{true, false};
+ghost use Rattle.model.specs.Refusals.{answerNumber, told};
+ghost use Rattle.model.specs.CutCalls.{cutAnswer, cutLeavesPivots, cutLeavesEdges, translateKeyAnswer, translateKeyLeaves};
+
+#[no_mangle]
+pub extern "C" fn jd_split_left(
+    pivots: &[u8],
+    edges: &[u8],
+    key: &[u8],
+    dp: &mut [u8],
+    de: &mut [u8],
+    value: &mut u64,
+) -> u32
+    ensures number { λ r. ⌜ r ≡ answerNumber (cutAnswer true (now (pivots .entry)) (now (edges .entry)) (now (key .entry)) (now (dp .entry)) (now (de .entry))) ⌝ }
+    ensures value { λ r. ⌜ now (value .exit) ≡ told (cutAnswer true (now (pivots .entry)) (now (edges .entry)) (now (key .entry)) (now (dp .entry)) (now (de .entry))) (now (value .entry)) ⌝ }
+    ensures pivots { λ r. ⌜ now (dp .exit) ≡ cutLeavesPivots true (now (pivots .entry)) (now (edges .entry)) (now (key .entry)) (now (dp .entry)) (now (de .entry)) ⌝ }
+    ensures edges { λ r. ⌜ now (de .exit) ≡ cutLeavesEdges true (now (pivots .entry)) (now (edges .entry)) (now (key .entry)) (now (dp .entry)) (now (de .entry)) ⌝ }
+{
+    tell(cuts::split_left(pivots, edges, key, dp, de), value)
+}
+
+#[no_mangle]
+pub extern "C" fn jd_split_right(
+    pivots: &[u8],
+    edges: &[u8],
+    key: &[u8],
+    dp: &mut [u8],
+    de: &mut [u8],
+    value: &mut u64,
+) -> u32
+    ensures number { λ r. ⌜ r ≡ answerNumber (cutAnswer false (now (pivots .entry)) (now (edges .entry)) (now (key .entry)) (now (dp .entry)) (now (de .entry))) ⌝ }
+    ensures value { λ r. ⌜ now (value .exit) ≡ told (cutAnswer false (now (pivots .entry)) (now (edges .entry)) (now (key .entry)) (now (dp .entry)) (now (de .entry))) (now (value .entry)) ⌝ }
+    ensures pivots { λ r. ⌜ now (dp .exit) ≡ cutLeavesPivots false (now (pivots .entry)) (now (edges .entry)) (now (key .entry)) (now (dp .entry)) (now (de .entry)) ⌝ }
+    ensures edges { λ r. ⌜ now (de .exit) ≡ cutLeavesEdges false (now (pivots .entry)) (now (edges .entry)) (now (key .entry)) (now (dp .entry)) (now (de .entry)) ⌝ }
+{
+    tell(cuts::split_right(pivots, edges, key, dp, de), value)
+}
+
+#[no_mangle]
+pub extern "C" fn jd_translate_key(
+    pivots: &[u8],
+    edges: &[u8],
+    key: &[u8],
+    dest: &mut [u8],
+    value: &mut u64,
+) -> u32
+    ensures number { λ r. ⌜ r ≡ answerNumber (translateKeyAnswer (now (pivots .entry)) (now (edges .entry)) (now (key .entry)) (now (dest .entry))) ⌝ }
+    ensures value { λ r. ⌜ now (value .exit) ≡ told (translateKeyAnswer (now (pivots .entry)) (now (edges .entry)) (now (key .entry)) (now (dest .entry))) (now (value .entry)) ⌝ }
+    ensures written { λ r. ⌜ now (dest .exit) ≡ translateKeyLeaves (now (pivots .entry)) (now (edges .entry)) (now (key .entry)) (now (dest .entry)) ⌝ }
+{
+    tell(translation::translate_key(pivots, edges, key, dest), value)
+}

@@ -1,0 +1,57 @@
+//! Groups for the cuts and the translation of a key.
+mod by_hand;
+mod calls;
+mod inputs;
+mod random;
+mod small;
+mod two_orders;
+mod wrapper;
+
+use crate::call::Call;
+use crate::group::Group;
+use crate::tables::faults;
+use crate::{lengths, test, Test};
+
+pub fn tests() -> Vec<Test> {
+    let mut tests = vec![
+        test("rows 14 and 15: cuts", by_hand::rows),
+        test("cuts of T by hand", by_hand::cuts_of_t),
+        test("cuts: 64 and 65 bytes produced", by_hand::limits),
+        test("cuts: destinations by hand", by_hand::destinations),
+        test("cuts: order of causes by hand", by_hand::order_of_causes),
+        test("wrapper: cuts", wrapper::cuts),
+        test("two orders: small tables", two_orders::small),
+        test("two orders: random", |group| {
+            two_orders::random(group, 20_000)
+        }),
+    ];
+    tests.extend(calls::CALLS.into_iter().flat_map(tests_of));
+    tests
+}
+
+type Body = fn(&mut Group, &Call);
+
+fn tests_of(call: &'static Call) -> Vec<Test> {
+    let bodies: [(&str, Body); 11] = [
+        ("counts", faults::counts),
+        ("faults", faults::each_place),
+        ("each edge of 63", faults::each_edge),
+        ("lengths", lengths::every_length),
+        ("any tables, random", |group, call| {
+            crate::random::cases(group, call, 60_000)
+        }),
+        ("small tables", small::all_keys),
+        ("small tables, destinations", small::destinations),
+        ("small tables, unsorted", small::unsorted),
+        ("destinations of every length", small::every_length),
+        ("random", |group, call| random::good(group, call, 10_000)),
+        ("random with faults", |group, call| {
+            random::spoiled(group, call, 30_000)
+        }),
+    ];
+    let named = |(what, body): (&str, Body)| {
+        let name = format!("{}: {what}", call.name);
+        test(name, move |group| body(group, call))
+    };
+    bodies.into_iter().map(named).collect()
+}

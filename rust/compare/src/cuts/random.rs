@@ -1,0 +1,45 @@
+//! Random tables, well formed and with one to three faults, the same in every run; keys near
+//! their pivots, and destinations around what is written.
+use super::inputs::{dests_around, good_table, key_near, spoil};
+use crate::call::{Asked, Call};
+use crate::group::Group;
+use crate::inputs::Xorshift;
+
+const SEED: u64 = 20_260_627;
+const KEYS: usize = 4;
+
+/// One case for each pair of destinations around what is written.
+fn around(group: &mut Group, call: &Call, slices: &[&[u8]]) {
+    for dests in dests_around(call, slices) {
+        group.case(call, &Asked::with_dests(slices, dests));
+    }
+}
+
+pub fn good(group: &mut Group, call: &Call, count: usize) {
+    let mut random = Xorshift::new(SEED);
+    for _ in 0..count {
+        let table = good_table(&mut random);
+        for _ in 0..KEYS {
+            let key = key_near(&mut random, &table);
+            around(group, call, &[&table.pivots, &table.edges, &key]);
+        }
+    }
+}
+
+pub fn spoiled(group: &mut Group, call: &Call, count: usize) {
+    let mut random = Xorshift::new(SEED);
+    for _ in 0..count {
+        let table = good_table(&mut random);
+        let mut key = key_near(&mut random, &table);
+        let (mut pivots, mut edges) = (table.pivots, table.edges);
+        for _ in 0..=random.below(3) {
+            match random.below(8) {
+                0 => key.resize(65 + random.below(3), 0),
+                1..=4 if pivots.len() >= 66 => spoil(&mut random, &mut pivots),
+                _ if edges.len() >= 66 => spoil(&mut random, &mut edges),
+                _ => {}
+            }
+        }
+        around(group, call, &[&pivots, &edges, &key]);
+    }
+}

@@ -1,0 +1,143 @@
+//! The cuts of a table with its edges, and the translation of a key in it.
+use crate::raw;
+use crate::refusal::Refusal;
+
+/// A function of the archive that cuts a table into two destinations.
+type Split = unsafe extern "C" fn(
+    *const u8,
+    usize,
+    *const u8,
+    usize,
+    *const u8,
+    usize,
+    *mut u8,
+    usize,
+    *mut u8,
+    usize,
+    *mut u64,
+) -> u32;
+
+fn split(
+    call: Split,
+    pivots: &[u8],
+    edges: &[u8],
+    key: &[u8],
+    dest_pivots: &mut [u8],
+    dest_edges: &mut [u8],
+) -> Result<usize, Refusal> {
+    let mut written = 0;
+    // SAFETY: the slices are good for their lengths, and each destination, borrowed alone,
+    // overlaps none.
+    let number = unsafe {
+        call(
+            pivots.as_ptr(),
+            pivots.len(),
+            edges.as_ptr(),
+            edges.len(),
+            key.as_ptr(),
+            key.len(),
+            dest_pivots.as_mut_ptr(),
+            dest_pivots.len(),
+            dest_edges.as_mut_ptr(),
+            dest_edges.len(),
+            &mut written,
+        )
+    };
+    Refusal::check(number)?;
+    Ok(written as usize)
+}
+
+/// Cuts off what lies from the key on: writes the pivots below the key and the key, and the
+/// edges of these slots. The last slot is cut, and its edge goes on with what the range's prefix
+/// gains. Answers the pivots written; the edges written are one fewer.
+/// Refuses 1, 2, 3, 4, 5, 8, 10.
+///
+/// ```
+/// use joistdenim::{split_left, translate_key, RECORD_SIZE};
+///
+/// fn record(key: &[u8]) -> [u8; RECORD_SIZE] {
+///     let mut record = [0; RECORD_SIZE];
+///     record[1] = key.len() as u8;
+///     record[2..2 + key.len()].copy_from_slice(key);
+///     record
+/// }
+///
+/// // One slot, from 41 30 up to 41 35: its keys begin with 41, and the edge replaces this by 43.
+/// let pivots = [record(&[0x41, 0x30]), record(&[0x41, 0x35])].concat();
+/// let edges = record(&[0x43]);
+/// let (mut cut, mut cut_edges) = ([0; 2 * RECORD_SIZE], [0; RECORD_SIZE]);
+/// let written = split_left(&pivots, &edges, &[0x41, 0x31], &mut cut, &mut cut_edges)?;
+/// assert_eq!(written, 2);
+/// assert_eq!(cut[..], [record(&[0x41, 0x30]), record(&[0x41, 0x31])].concat());
+/// assert_eq!(cut_edges, record(&[0x43, 0x30]));
+///
+/// // A key that the cut keeps is translated as before.
+/// let mut dest = [0; 64];
+/// let length = translate_key(&cut, &cut_edges, &[0x41, 0x30, 0x07], &mut dest)?;
+/// assert_eq!(dest[..length], [0x43, 0x30, 0x07]);
+/// # Ok::<(), joistdenim::Refusal>(())
+/// ```
+pub fn split_left(
+    pivots: &[u8],
+    edges: &[u8],
+    key: &[u8],
+    dest_pivots: &mut [u8],
+    dest_edges: &mut [u8],
+) -> Result<usize, Refusal> {
+    split(
+        raw::jd_split_left,
+        pivots,
+        edges,
+        key,
+        dest_pivots,
+        dest_edges,
+    )
+}
+
+/// Cuts off what lies below the key: writes the key and the pivots above it, and the edges of
+/// these slots. The first slot is cut, and its edge goes on with what the range's prefix gains.
+/// Answers the pivots written; the edges written are one fewer.
+/// Refuses 1, 2, 3, 4, 5, 8, 10.
+pub fn split_right(
+    pivots: &[u8],
+    edges: &[u8],
+    key: &[u8],
+    dest_pivots: &mut [u8],
+    dest_edges: &mut [u8],
+) -> Result<usize, Refusal> {
+    split(
+        raw::jd_split_right,
+        pivots,
+        edges,
+        key,
+        dest_pivots,
+        dest_edges,
+    )
+}
+
+/// Writes the key with its slot's edge in place of the range's prefix, or the key itself where
+/// the slot has no edge; answers its length. Refuses 1, 2, 3, 4, 5, 8, 10.
+pub fn translate_key(
+    pivots: &[u8],
+    edges: &[u8],
+    key: &[u8],
+    dest: &mut [u8],
+) -> Result<usize, Refusal> {
+    let mut length = 0;
+    // SAFETY: the slices are good for their lengths, and `dest`, borrowed alone, overlaps none.
+    let number = unsafe {
+        raw::jd_translate_key(
+            pivots.as_ptr(),
+            pivots.len(),
+            edges.as_ptr(),
+            edges.len(),
+            key.as_ptr(),
+            key.len(),
+            dest.as_mut_ptr(),
+            dest.len(),
+            &mut length,
+        )
+    };
+    Refusal::check(number)?;
+    Ok(length as usize)
+}

@@ -1,0 +1,43 @@
+//! The cuts of a table and the translation of a key in it.
+
+extern "C" {
+    pub fn jd_split_left(
+        pivots: *const u8,
+        pivots_len: usize,
+        edges: *const u8,
+        edges_len: usize,
+        key: *const u8,
+        key_len: usize,
+        dest_pivots: *mut u8,
+        dest_pivots_len: usize,
+        dest_edges: *mut u8,
+        dest_edges_len: usize,
+        written: *mut u64,
+    ) -> u32;
+
+    pub fn jd_split_right(
+        pivots: *const u8,
+        pivots_len: usize,
+        edges: *const u8,
+        edges_len: usize,
+        key: *const u8,
+        key_len: usize,
+        dest_pivots: *mut u8,
+        dest_pivots_len: usize,
+        dest_edges: *mut u8,
+        dest_edges_len: usize,
+        written: *mut u64,
+    ) -> u32;
+
+    pub fn jd_translate_key(
+        pivots: *const u8,
+        pivots_len: usize,
+        edges: *const u8,
+        edges_len: usize,
+        key: *const u8,
+        key_len: usize,
+        dest: *mut u8,
+        dest_len: usize,
+        length: *mut u64,
+    ) -> u32;
+}

@@ -1,0 +1,76 @@
+//! The cuts of a table with its edges: SplitLeft with SplitLeftEdges, and the right ones.
+use crate::record::{Edge, Element, MAX_LEN, RECORD_SIZE};
+use crate::refusal::{refuse_if, Refusal};
+use crate::table::Pivots;
+use crate::table_calls::table_and_key;
+
+/// What becomes of the edge of a slot that is cut: the old edge, "followed by what the new
+/// range's prefix has beyond the old one's". Here it may have any length.
+fn cut_edge(old: Edge, old_prefix: &[u8], new_prefix: &[u8]) -> Option<Vec<u8>> {
+    match old {
+        Edge::To(edge) => Some([edge, &new_prefix[old_prefix.len()..]].concat()),
+        Edge::Absent => None,
+    }
+}
+
+/// An edge that was produced: cause 8.
+fn produced(edge: &Option<Vec<u8>>) -> Result<Edge<'_>, Refusal> {
+    let Some(edge) = edge else {
+        return Ok(Edge::Absent);
+    };
+    refuse_if(edge.len() > MAX_LEN, Refusal::TooLong)?;
+    Ok(Edge::To(edge))
+}
+
+/// Writes a table into two destinations; where either is too short, into neither: cause 10.
+fn put(
+    pivots: &[Element],
+    edges: &[Edge],
+    dest_pivots: &mut [u8],
+    dest_edges: &mut [u8],
+) -> Result<usize, Refusal> {
+    let short = |dest: &[u8], records: usize| dest.len() < records * RECORD_SIZE;
+    refuse_if(
+        short(dest_pivots, pivots.len()) || short(dest_edges, edges.len()),
+        Refusal::NoRoom,
+    )?;
+    for (pivot, dest) in pivots.iter().zip(dest_pivots.chunks_mut(RECORD_SIZE)) {
+        pivot.put(dest)?;
+    }
+    for (edge, dest) in edges.iter().zip(dest_edges.chunks_mut(RECORD_SIZE)) {
+        edge.put(dest)?;
+    }
+    Ok(pivots.len())
+}
+
+/// A left cut "keeps the pivots below k and ends with k". Answers the pivots written.
+pub fn split_left(
+    pivots: &[u8],
+    edges: &[u8],
+    key: &[u8],
+    dest_pivots: &mut [u8],
+    dest_edges: &mut [u8],
+) -> Result<usize, Refusal> {
+    let (pivots, edges, key) = table_and_key(pivots, edges, key)?;
+    let slot = pivots.cutoff_for_left(key)?;
+    let cut = Pivots::rising([&pivots.all()[..=slot], &[key]].concat())?;
+    let edge = cut_edge(edges[slot], pivots.slot_prefix(slot), cut.slot_prefix(slot));
+    let cut_edges = [&edges[..slot], &[produced(&edge)?]].concat();
+    put(cut.all(), &cut_edges, dest_pivots, dest_edges)
+}
+
+/// A right cut "starts with k and keeps the pivots above k". Answers the pivots written.
+pub fn split_right(
+    pivots: &[u8],
+    edges: &[u8],
+    key: &[u8],
+    dest_pivots: &mut [u8],
+    dest_edges: &mut [u8],
+) -> Result<usize, Refusal> {
+    let (pivots, edges, key) = table_and_key(pivots, edges, key)?;
+    let slot = pivots.route(key)?;
+    let cut = Pivots::rising([&[key], &pivots.all()[slot + 1..]].concat())?;
+    let edge = cut_edge(edges[slot], pivots.slot_prefix(slot), cut.slot_prefix(0));
+    let cut_edges = [&[produced(&edge)?], &edges[slot + 1..]].concat();
+    put(cut.all(), &cut_edges, dest_pivots, dest_edges)
+}

@@ -1,0 +1,125 @@
+/*
+ * What the C programs on tables share: tables of records, good and bad, and cuts of them into
+ * two destinations between bytes that must not change.
+ */
+#ifndef TABLE_H
+#define TABLE_H
+
+#include "check.h"
+
+#define TABLE(...) \
+    table((slice[]){__VA_ARGS__}, sizeof((slice[]){__VA_ARGS__}) / sizeof(slice))
+
+/* The last 64 tables made stand side by side, more than a check uses. */
+static inline uint8_t *next_table(void)
+{
+    static uint8_t tables[64][(JD_MAX_PIVOTS + 2) * JD_RECORD_SIZE];
+    static unsigned next;
+    return tables[next++ % 64];
+}
+
+/* These records as one slice. */
+static inline slice table(const slice *records, size_t count)
+{
+    uint8_t *t = next_table();
+    for (size_t i = 0; i < count; i++)
+        memcpy(t + i * JD_RECORD_SIZE, records[i].bytes, JD_RECORD_SIZE);
+    return (slice){t, count * JD_RECORD_SIZE};
+}
+
+/* This many rising pivots, of one byte each. */
+static inline slice rising(size_t count)
+{
+    uint8_t *t = next_table();
+    for (size_t i = 0; i < count; i++)
+        put(t + i * JD_RECORD_SIZE, 1, (slice){(const uint8_t[]){(uint8_t)(i + 1)}, 1});
+    return (slice){t, count * JD_RECORD_SIZE};
+}
+
+/* This many absent edges. */
+static inline slice absent(size_t count)
+{
+    uint8_t *t = next_table();
+    for (size_t i = 0; i < count; i++)
+        put(t + i * JD_RECORD_SIZE, JD_NO_EDGE, none);
+    return (slice){t, count * JD_RECORD_SIZE};
+}
+
+/* Table T's pivots: A0, A5, B. Its edges are C and none. */
+static inline slice pivots_of_t(void)
+{
+    return TABLE(key(BYTES("A0")), key(BYTES("A5")), key(BYTES("B")));
+}
+
+static inline slice edges_of_t(void)
+{
+    return TABLE(key(BYTES("C")), record(JD_NO_EDGE, none));
+}
+
+/* Pivots that fall, and such with a malformed record at the end. */
+static inline slice falling(void)
+{
+    return TABLE(key(BYTES("B")), key(BYTES("A")), key(BYTES("C")));
+}
+
+static inline slice falling_and_wrong(void)
+{
+    return TABLE(key(BYTES("B")), key(BYTES("A")), record(65, none));
+}
+
+/* ---- cuts */
+
+typedef uint32_t split_call(const uint8_t *pivots, size_t pivots_len, const uint8_t *edges,
+                            size_t edges_len, const uint8_t *key, size_t key_len,
+                            uint8_t *dest_pivots, size_t dest_pivots_len, uint8_t *dest_edges,
+                            size_t dest_edges_len, uint64_t *written);
+
+typedef struct {
+    slice pivots, edges;
+} pair;
+
+/* Lengths of the two destinations. */
+typedef struct {
+    size_t pivots, edges;
+} lengths;
+
+#define CUT_ROOM (JD_MAX_PIVOTS * JD_RECORD_SIZE)
+static const lengths ample = {CUT_ROOM, CUT_ROOM};
+static const pair nothing = {{long_bytes, 0}, {long_bytes, 0}};
+
+/* The destinations of a cut. Two cuts in a row have different ones, so that the second can be
+ * lent what the first wrote. */
+static struct {
+    uint8_t pivots[GUARD + CUT_ROOM + GUARD];
+    uint8_t edges[GUARD + CUT_ROOM + GUARD];
+} cut_rooms[2], *cut_room = cut_rooms;
+
+/* A cut: what it returns and answers, and both destinations whole. */
+static inline void cut(const char *name, split_call *call, pair table, slice k, lengths dest,
+                       uint32_t wanted, pair written)
+{
+    uint64_t number = NUMBER_BEFORE;
+    cut_room = cut_room == cut_rooms ? cut_rooms + 1 : cut_rooms;
+    uint8_t *to_pivots = refill(cut_room->pivots, sizeof cut_room->pivots);
+    uint8_t *to_edges = refill(cut_room->edges, sizeof cut_room->edges);
+    uint32_t got = call(table.pivots.bytes, table.pivots.length, table.edges.bytes,
+                        table.edges.length, k.bytes, k.length, to_pivots, dest.pivots, to_edges,
+                        dest.edges, &number);
+    result(name, got, number, wanted, written.pivots.length / JD_RECORD_SIZE);
+    count(holds(cut_room->pivots, sizeof cut_room->pivots, written.pivots), name);
+    count(holds(cut_room->edges, sizeof cut_room->edges, written.edges), name);
+}
+
+/* The translation of a key, into a destination of this length. */
+static inline void translate(const char *name, pair table, slice k, size_t dest, uint32_t wanted,
+                             slice written)
+{
+    uint64_t number = NUMBER_BEFORE;
+    uint8_t *to = fresh();
+    uint32_t got = jd_translate_key(table.pivots.bytes, table.pivots.length, table.edges.bytes,
+                                    table.edges.length, k.bytes, k.length, to, dest, &number);
+    result(name, got, number, wanted, written.length);
+    left(name, written);
+}
+
+#endif
