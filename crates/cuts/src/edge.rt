@@ -32,7 +32,7 @@ fn cut_edge(edge: &[u8], old: &[u8], new: &[u8], made: &mut [u8]) -> Answer
 }
 
 // The edge of slot c, cut to what a cut at the key leaves of the slot.
-pub fn slot_edge(
+pub(crate) fn slot_edge(
     pivots: &[u8],
     edges: &[u8],
     k: &[u8],
