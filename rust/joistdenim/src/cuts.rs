@@ -2,23 +2,8 @@
 use crate::raw;
 use crate::refusal::Refusal;
 
-/// A function of the archive that cuts a table into two destinations.
-type Split = unsafe extern "C" fn(
-    *const u8,
-    usize,
-    *const u8,
-    usize,
-    *const u8,
-    usize,
-    *mut u8,
-    usize,
-    *mut u8,
-    usize,
-    *mut u64,
-) -> u32;
-
 fn split(
-    call: Split,
+    call: raw::Split,
     pivots: &[u8],
     edges: &[u8],
     key: &[u8],

@@ -6,24 +6,10 @@ use joistdenim::raw;
 
 pub static CALLS: [&Call; 3] = [&SPLIT_LEFT, &SPLIT_RIGHT, &TRANSLATE_KEY];
 
-type Split = unsafe extern "C" fn(
-    *const u8,
-    usize,
-    *const u8,
-    usize,
-    *const u8,
-    usize,
-    *mut u8,
-    usize,
-    *mut u8,
-    usize,
-    *mut u64,
-) -> u32;
-
 // SAFETY of every call here: `Lent` owns the bytes, each slice is good for its length, and no
 // two overlap.
 
-fn split(call: Split, lent: &mut Lent) -> u32 {
+fn split(call: raw::Split, lent: &mut Lent) -> u32 {
     let [pivots, edges, key] = lent.slices();
     let [dest_pivots, dest_edges] = lent.dests();
     unsafe {
