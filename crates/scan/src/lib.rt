@@ -1,4 +1,8 @@
 // Scans over lent bytes. Nothing is written, and no public function has a `requires`.
+mod words;
+
+use words::equal_words;
+use words::zero_words;
 ghost use mathlib.Core.Path.{_≡_};
 ghost use Prim.Native.Nat.{_≤_, min};
 ghost use lib.ListN.{length, drop, getD};
@@ -29,7 +33,7 @@ pub fn common_run(a: &[u8], b: &[u8]) -> usize
     ensures { λ r. ⌜ (r ≤ length (now (a .entry))) × (r ≤ length (now (b .entry))) ⌝ }
 {
     let n = least(a.len(), b.len());
-    let mut i = 0;
+    let mut i = equal_words(a, b, n);
     while i < n {
         if a[i] != b[i] {
             return i;
@@ -58,7 +62,10 @@ pub fn ff_run(a: &[u8]) -> usize
 pub fn zero_from(a: &[u8], from: usize) -> bool
     ensures { λ r. ⌜ r ≡ allZero (drop from (now (a .entry))) ⌝ }
 {
-    let mut i = from;
+    if a.len() <= from {
+        return true;
+    }
+    let mut i = zero_words(a, from);
     while i < a.len() {
         if a[i] != 0 {
             return false;

@@ -16,14 +16,20 @@ Inv-loop a from i₀ i = allZero (drop i a) ≡ allZero (drop from a)
 abbrev μ-loop : tie.MeasureT-loop
 μ-loop a from i₀ i = length a - i
 
+returns : tie.Need-returns Inv-loop μ-loop
+returns c = search rules
+
+zero-words-requires : tie.Need-zero-words-requires Inv-loop μ-loop
+zero-words-requires c κs = search rules
+
 loop-holds : tie.Need-loop-holds Inv-loop μ-loop
 loop-holds c = search rules
 
-shared-slice-read-if1 : tie.Need-shared-slice-read-if1 Inv-loop μ-loop
-shared-slice-read-if1 c = search rules
+shared-slice-read-if2 : tie.Need-shared-slice-read-if2 Inv-loop μ-loop
+shared-slice-read-if2 c = search rules
 
-returns : tie.Need-returns Inv-loop μ-loop
-returns c = search rules
+returns-2 : tie.Need-returns-2 Inv-loop μ-loop
+returns-2 c = search rules
 
 add-i : tie.Need-add-i Inv-loop μ-loop
 add-i c = search rules
@@ -34,8 +40,8 @@ loop-less c = search rules
 loop-again : tie.Need-loop-again Inv-loop μ-loop
 loop-again c = search rules
 
-returns-2 : tie.Need-returns-2 Inv-loop μ-loop
-returns-2 c = search rules
+returns-3 : tie.Need-returns-3 Inv-loop μ-loop
+returns-3 c = search rules
 
 pub zero-from-spec : {M : Type 1} → statement M
 zero-from-spec =
@@ -43,10 +49,12 @@ zero-from-spec =
     (tie.spec
     Inv-loop
     μ-loop
-    loop-holds
-    shared-slice-read-if1
     returns
+    zero-words-requires
+    loop-holds
+    shared-slice-read-if2
+    returns-2
     add-i
     loop-less
     loop-again
-    returns-2)
+    returns-3)

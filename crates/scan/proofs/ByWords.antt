@@ -1,0 +1,83 @@
+-- Bytes that make equal words are equal, and those of a zero word are zero.
+use mathlib.Core.Path.{_≡_, refl, sym, _∙_}
+use mathlib.Core.Bool.{Bool}
+use mathlib.Core.List.{List, [], _∷_}
+use Prim.Native.Nat.{ℕ, zero, suc, _+_, _*_, _-_, _≤_}
+use native.Mathlib.Omega.{arith}
+use mir.Syntax.{w8}
+use mir.Val.{Fits}
+use borrow.Author.Tests.{eq-eqb}
+use lib.ListN.{length, drop, getD, length-drop}
+use lib.Seq.{drop-drop, getD-drop}
+use Rattle.model.specs.Key.{Bytes, commonRun}
+use Rattle.model.specs.Record.{allZero}
+use Rattle.model.proofs.Prefix.{bytes-of, bytes-drop}
+use Rattle.scan.specs.Word.{wordOf}
+
+-- ---- lists whose first n bytes make one word
+
+common-words : (n : ℕ) (a b : List ℕ) → n ≤ length a → n ≤ length b → Bytes a → Bytes b → wordOf n a ≡ wordOf n b
+    → n + length (commonRun (drop n a) (drop n b)) ≡ length (commonRun a b)
+unfolding wordOf commonRun
+common-words zero a b h k p q e = omega arith
+common-words (suc n) [] b h k p q e = absurd (omega arith)
+common-words (suc n) (x ∷ a) [] h k p q e = absurd (omega arith)
+common-words (suc n) (x ∷ a) (y ∷ b) h k p q e =
+    let u = p .0 in
+    let v = q .0 in
+    let s : x ≡ y = omega arith in
+    let t = common-words n a b (omega arith) (omega arith) (p .1) (q .1) (omega arith) in
+    rw (eq-eqb x y s) (omega (arith, t))
+
+zero-word : (n : ℕ) (a : List ℕ) → n ≤ length a → wordOf n a ≡ 0 → allZero (drop n a) ≡ allZero a
+unfolding wordOf allZero
+zero-word zero a h e = refl
+zero-word (suc n) [] h e = refl
+zero-word (suc n) (x ∷ a) h e =
+    let s : x ≡ 0 = omega arith in
+    rw (eq-eqb x 0 s) (zero-word n a (omega arith) (omega arith))
+
+-- ---- in the course of a scan
+
+module _ (a b : List ℕ) (i : ℕ) (h : i + length (commonRun (drop i a) (drop i b)) ≡ length (commonRun a b)) where
+  pub words-turn : (n x y : ℕ) → x ≡ wordOf 8 (drop i a) → y ≡ wordOf 8 (drop i b) → x ≡ y → 8 ≤ n - i → n ≤ length a → n ≤ length b
+      → ((j : ℕ) → Fits w8 (getD a j 0)) → ((j : ℕ) → Fits w8 (getD b j 0))
+      → i + 8 + length (commonRun (drop (i + 8) a) (drop (i + 8) b)) ≡ length (commonRun a b)
+  words-turn n x y u v e l p q s t =
+      let w = common-words 8 (drop i a) (drop i b) (omega (arith, length-drop i a)) (omega (arith, length-drop i b))
+      (bytes-drop i a (bytes-of a s)) (bytes-drop i b (bytes-of b t)) (sym u ∙ e ∙ v) in
+      omega (arith, h, rw (drop-drop, drop-drop) at w)
+
+pub zeros-turn : (a : List ℕ) (i x : ℕ) (t : Bool) → allZero (drop i a) ≡ t → x ≡ wordOf 8 (drop i a) → x ≡ 0 → 8 ≤ length a - i
+    → allZero (drop (i + 8) a) ≡ t
+zeros-turn a i x t h u e l =
+    let w = zero-word 8 (drop i a) (omega (arith, length-drop i a)) (sym u ∙ e) in
+    rw drop-drop at w ∙ h
+
+-- ---- the word of eight bytes
+
+-- one byte and the word of those after it
+word-step : (n : ℕ) (s : List ℕ) (i j : ℕ) → j ≡ i + 1 → wordOf (suc n) (drop i s) ≡ getD s i 0 + 256 * wordOf n (drop j s)
+unfolding wordOf
+word-step n s i j e =
+    let z : i + 0 ≡ i = omega arith in
+    rw (getD-drop, z, drop-drop, e)
+
+word-none : (l : List ℕ) → wordOf 0 l ≡ 0
+unfolding wordOf
+word-none l = refl
+
+pub word-is : (s : List ℕ) (i : ℕ) → wordOf 8 (drop i s)
+    ≡ getD s i 0 + getD s (i + 1) 0 * 256 + getD s (i + 2) 0 * 65536 + getD s (i + 3) 0 * 16777216
+    + getD s (i + 4) 0 * 4294967296 + getD s (i + 5) 0 * 1099511627776 + getD s (i + 6) 0 * 281474976710656 + getD s (i + 7) 0 * 72057594037927936
+word-is s i =
+    let a = word-step 7 s i (i + 1) refl in
+    let b = word-step 6 s (i + 1) (i + 2) (omega arith) in
+    let c = word-step 5 s (i + 2) (i + 3) (omega arith) in
+    let d = word-step 4 s (i + 3) (i + 4) (omega arith) in
+    let e = word-step 3 s (i + 4) (i + 5) (omega arith) in
+    let f = word-step 2 s (i + 5) (i + 6) (omega arith) in
+    let g = word-step 1 s (i + 6) (i + 7) (omega arith) in
+    let h = word-step 0 s (i + 7) (i + 8) (omega arith) in
+    let k = word-none (drop (i + 8) s) in
+    omega arith

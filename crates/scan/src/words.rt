@@ -1,0 +1,59 @@
+// Scans by words of eight bytes, up to the last few bytes or to a word that ends the scan.
+ghost use mathlib.Core.Path.{_≡_};
+ghost use Prim.Native.Nat.{_+_, _≤_, _<_};
+ghost use lib.ListN.{length, drop};
+ghost use Rattle.model.specs.Key.{commonRun};
+ghost use Rattle.model.specs.Record.{allZero};
+ghost use Rattle.scan.specs.Word.{wordOf};
+
+fn wide(x: u8) -> u64
+    ensures { λ r. ⌜ (r ≡ x) × (r < 256) ⌝ }
+{
+    x as u64
+}
+
+// The eight bytes from a place on as one number, the first the lowest: the compiler makes one load of it.
+fn word_at(s: &[u8], at: usize) -> u64
+    requires { ⌜ at + 8 ≤ length (now s) ⌝ }
+    ensures { λ r. ⌜ r ≡ wordOf 8 (drop at (now (s .entry))) ⌝ }
+{
+    wide(s[at])
+        + wide(s[at + 1]) * 256
+        + wide(s[at + 2]) * 65536
+        + wide(s[at + 3]) * 16777216
+        + wide(s[at + 4]) * 4294967296
+        + wide(s[at + 5]) * 1099511627776
+        + wide(s[at + 6]) * 281474976710656
+        + wide(s[at + 7]) * 72057594037927936
+}
+
+// A place up to which the first n bytes agree, by words.
+pub(crate) fn equal_words(a: &[u8], b: &[u8], n: usize) -> usize
+    requires { ⌜ (n ≤ length (now a)) × (n ≤ length (now b)) ⌝ }
+    ensures { λ r. ⌜ r ≤ n ⌝ }
+    ensures { λ r. ⌜ r + length (commonRun (drop r (now (a .entry))) (drop r (now (b .entry)))) ≡ length (commonRun (now (a .entry)) (now (b .entry))) ⌝ }
+{
+    let mut i = 0;
+    while 8 <= n - i {
+        if word_at(a, i) != word_at(b, i) {
+            return i;
+        }
+        i += 8;
+    }
+    i
+}
+
+// A place up to which the bytes from another on are zero, by words.
+pub(crate) fn zero_words(a: &[u8], from: usize) -> usize
+    requires { ⌜ from ≤ length (now a) ⌝ }
+    ensures { λ r. ⌜ allZero (drop r (now (a .entry))) ≡ allZero (drop from (now (a .entry))) ⌝ }
+{
+    let mut i = from;
+    while 8 <= a.len() - i {
+        if word_at(a, i) != 0 {
+            return i;
+        }
+        i += 8;
+    }
+    i
+}

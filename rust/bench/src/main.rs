@@ -1,0 +1,49 @@
+//! Measures the library beside the reference and a floor; `docs/PERFORMANCE.md` says how, and what
+//! came out. Prints ratios, no times. An argument is the number of rounds.
+mod case;
+mod floor;
+mod inputs;
+mod key_calls;
+mod placement;
+mod report;
+mod sides;
+mod table_calls;
+mod timing;
+
+use inputs::Xorshift;
+use std::env;
+use std::process::ExitCode;
+
+const SEED: u64 = 20_260_701;
+const ROUNDS: usize = 201;
+
+/// The number of rounds, where the arguments are good.
+fn rounds() -> Option<usize> {
+    let mut words = env::args().skip(1);
+    match (words.next(), words.next()) {
+        (None, _) => Some(ROUNDS),
+        (Some(word), None) => word.parse().ok().filter(|&rounds| rounds > 0),
+        _ => None,
+    }
+}
+
+fn main() -> ExitCode {
+    let Some(rounds) = rounds() else {
+        eprintln!("usage: bench [ROUNDS]");
+        return ExitCode::from(2);
+    };
+    placement::keep();
+    let mut random = Xorshift::new(SEED);
+    let mut cases = key_calls::cases(&mut random);
+    cases.extend(table_calls::cases(&mut random));
+    for case in &mut cases {
+        case.calibrate();
+    }
+    for round in 0..rounds {
+        for case in &mut cases {
+            case.sample(round);
+        }
+    }
+    report::print(&cases, rounds);
+    ExitCode::SUCCESS
+}

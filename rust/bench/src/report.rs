@@ -1,0 +1,111 @@
+//! The printed tables, in Markdown, so that they can stand in a document as they are.
+use crate::case::Case;
+use crate::timing::{ratio, spread};
+use crate::{key_calls, table_calls};
+
+/// Up to here a ratio is printed as 1.00 or less.
+const EVEN: f64 = 1.005;
+
+fn find<'a>(cases: &'a [Case], call: &str, key: usize, pivots: usize) -> &'a Case {
+    let is_it = |case: &&Case| (case.call, case.key, case.pivots) == (call, key, pivots);
+    cases.iter().find(is_it).expect("a case that was measured")
+}
+
+fn to_reference(case: &Case) -> f64 {
+    ratio(&case.library, &case.reference)
+}
+
+fn to_floor(case: &Case) -> f64 {
+    ratio(&case.library, &case.floor)
+}
+
+fn row(call: &str, key: usize, numbers: impl IntoIterator<Item = f64>) {
+    print!("| {call} | {key} |");
+    for number in numbers {
+        print!(" {number:.2} |");
+    }
+    println!();
+}
+
+fn header(columns: &[&str]) {
+    println!("| {} |", columns.join(" | "));
+    println!("|{}", "---|".repeat(columns.len()));
+}
+
+fn keys(cases: &[Case]) {
+    header(&["call", "key bytes", "lib/ref", "lib/floor"]);
+    for call in key_calls::CALLS {
+        for key in key_calls::KEYS {
+            let case = find(cases, call, key, 0);
+            row(call, key, [to_reference(case), to_floor(case)]);
+        }
+    }
+}
+
+fn tables(cases: &[Case]) {
+    header(&[
+        "call",
+        "key bytes",
+        "lib/ref, 2 pivots",
+        "8",
+        "64",
+        "lib/floor, 2 pivots",
+        "8",
+        "64",
+        "growth from 2 to 64",
+    ]);
+    for call in table_calls::CALLS {
+        for key in table_calls::KEYS {
+            let sizes = table_calls::PIVOTS.map(|pivots| find(cases, call, key, pivots));
+            let growth = ratio(&sizes[2].library, &sizes[0].library);
+            let numbers = sizes.map(to_reference).into_iter();
+            row(
+                call,
+                key,
+                numbers.chain(sizes.map(to_floor)).chain([growth]),
+            );
+        }
+    }
+}
+
+/// How much of a call its check of the table takes, where that is a call too.
+fn checks(cases: &[Case]) {
+    header(&["call", "key bytes", "check/call, 2 pivots", "8", "64"]);
+    let pairs = [
+        ("route", "wf_pivots"),
+        ("translate_key", "wf_edges"),
+        ("split_left", "wf_edges"),
+        ("split_right", "wf_edges"),
+    ];
+    for (call, check) in pairs {
+        for key in table_calls::KEYS {
+            let of = |pivots| {
+                let check = find(cases, check, key, pivots);
+                ratio(&check.library, &find(cases, call, key, pivots).library)
+            };
+            row(call, key, table_calls::PIVOTS.map(of));
+        }
+    }
+}
+
+pub fn print(cases: &[Case], rounds: usize) {
+    keys(cases);
+    println!();
+    tables(cases);
+    println!();
+    checks(cases);
+    println!();
+    let slower = cases
+        .iter()
+        .filter(|case| to_reference(case) > EVEN)
+        .count();
+    let spreads = cases
+        .iter()
+        .map(|case| spread(&case.library, &case.reference));
+    println!(
+        "{rounds} rounds. lib/ref is over 1.00 in {slower} of {} cases; the middle half of its \
+         rounds is at most {:.0} % wide.",
+        cases.len(),
+        100.0 * spreads.fold(0.0, f64::max)
+    );
+}
