@@ -2,6 +2,7 @@
 // and the value through its last parameter, which a refusal leaves as it was. No public function has a `requires`.
 mod of_cuts;
 mod of_keys;
+mod of_list;
 mod of_tables;
 mod tell;
 
@@ -14,6 +15,7 @@ pub use of_keys::jd_entry_key;
 pub use of_keys::jd_pivot_key;
 pub use of_keys::jd_pivot_lcp;
 pub use of_keys::jd_shortest_uncommon_prefix;
+pub use of_list::jd_list_table;
 pub use of_tables::jd_bounded_key;
 pub use of_tables::jd_contains_all_keys;
 pub use of_tables::jd_contains_range;

@@ -5,12 +5,15 @@ use Prim.Native.Nat.{ℕ, suc, _+_, _*_, _-_, _/_, _%_}
 use lib.Dec.{eqb, ltb}
 use lib.ListN.{length, take, drop}
 use Rattle.model.specs.declared.Refusal.{Refusal}
+use Rattle.model.specs.declared.Refusal.the-variants.{NoRoom}
+use Rattle.model.specs.declared.Answer.{Answer}
 use Rattle.model.specs.Key.{Key}
 use Rattle.model.specs.Order.{Element, key, max}
 use Rattle.model.specs.Record.{Edge, edge, noEdge, recordSize, lengthField, elements, edges}
 use Rattle.model.specs.RangePrefix.{PivotLcp}
 use Rattle.model.specs.Tables.{PivotTable, EdgeTable}
-use Rattle.model.specs.Refusals.{Cause, number, outcome}
+use Rattle.model.specs.Refusals.{Cause, _⇒_, number, outcome, answer, leaves}
+use Rattle.model.specs.Calls.{noRoom}
 use Rattle.model.specs.TableCalls.{tableCauses}
 
 abbrev pub tab : ℕ
@@ -105,3 +108,14 @@ refusedText r = refusedWord ++ tab ∷ decimal (number r) ++ newline ∷ []
 
 unfoldable pub shelfList : List ℕ → List ℕ
 shelfList s = outcome refusedText (listCauses s) (tableText (elements (listPivots s)) (edges (listEdges s)))
+
+-- ---- the list as a call, into d: an input that the list refuses is accepted here and its text is the `refused` line; only a destination too short is 10
+
+abbrev pub listTableCauses : List ℕ → List ℕ → List Cause
+listTableCauses s d = (noRoom (length (shelfList s)) d ⇒ NoRoom) ∷ []
+
+abbrev pub listTableAnswer : List ℕ → List ℕ → Answer
+listTableAnswer s d = answer (listTableCauses s d) (length (shelfList s))
+
+abbrev pub listTableLeaves : List ℕ → List ℕ → List ℕ
+listTableLeaves s d = leaves (listTableCauses s d) (shelfList s) d

@@ -37,24 +37,22 @@ zero-word (suc n) (x ∷ a) h e =
     let s : x ≡ 0 = omega arith in
     rw (eq-eqb x 0 s) (zero-word n a (omega arith) (omega arith))
 
--- ---- in the course of a scan
+-- ---- in the course of a scan, by words of m bytes
 
-module _ (a b : List ℕ) (i : ℕ) (h : i + length (commonRun (drop i a) (drop i b)) ≡ length (commonRun a b)) where
-  pub words-turn : (n x y : ℕ) → x ≡ wordOf 8 (drop i a) → y ≡ wordOf 8 (drop i b) → x ≡ y → 8 ≤ n - i → n ≤ length a → n ≤ length b
-      → ((j : ℕ) → Fits w8 (getD a j 0)) → ((j : ℕ) → Fits w8 (getD b j 0))
-      → i + 8 + length (commonRun (drop (i + 8) a) (drop (i + 8) b)) ≡ length (commonRun a b)
-  words-turn n x y u v e l p q s t =
-      let w = common-words 8 (drop i a) (drop i b) (omega (arith, length-drop i a)) (omega (arith, length-drop i b))
-      (bytes-drop i a (bytes-of a s)) (bytes-drop i b (bytes-of b t)) (sym u ∙ e ∙ v) in
-      omega (arith, h, rw (drop-drop, drop-drop) at w)
+pub word-agrees : (m : ℕ) (a b : List ℕ) (i n x y : ℕ) → x ≡ wordOf m (drop i a) → y ≡ wordOf m (drop i b) → x ≡ y → m ≤ n - i
+    → n ≤ length a → n ≤ length b → ((j : ℕ) → Fits w8 (getD a j 0)) → ((j : ℕ) → Fits w8 (getD b j 0))
+    → i + m + length (commonRun (drop (i + m) a) (drop (i + m) b)) ≡ i + length (commonRun (drop i a) (drop i b))
+word-agrees m a b i n x y u v e l p q s t =
+    let w = common-words m (drop i a) (drop i b) (omega (arith, length-drop i a)) (omega (arith, length-drop i b))
+    (bytes-drop i a (bytes-of a s)) (bytes-drop i b (bytes-of b t)) (sym u ∙ e ∙ v) in
+    omega (arith, rw (drop-drop, drop-drop) at w)
 
-pub zeros-turn : (a : List ℕ) (i x : ℕ) (t : Bool) → allZero (drop i a) ≡ t → x ≡ wordOf 8 (drop i a) → x ≡ 0 → 8 ≤ length a - i
-    → allZero (drop (i + 8) a) ≡ t
-zeros-turn a i x t h u e l =
-    let w = zero-word 8 (drop i a) (omega (arith, length-drop i a)) (sym u ∙ e) in
-    rw drop-drop at w ∙ h
+pub word-zero : (m : ℕ) (a : List ℕ) (i x : ℕ) → x ≡ wordOf m (drop i a) → x ≡ 0 → m ≤ length a - i → allZero (drop (i + m) a) ≡ allZero (drop i a)
+word-zero m a i x u e l =
+    let w = zero-word m (drop i a) (omega (arith, length-drop i a)) (sym u ∙ e) in
+    rw drop-drop at w
 
--- ---- the word of eight bytes
+-- ---- the word of four and of eight bytes
 
 -- one byte and the word of those after it
 word-step : (n : ℕ) (s : List ℕ) (i j : ℕ) → j ≡ i + 1 → wordOf (suc n) (drop i s) ≡ getD s i 0 + 256 * wordOf n (drop j s)
@@ -66,6 +64,15 @@ word-step n s i j e =
 word-none : (l : List ℕ) → wordOf 0 l ≡ 0
 unfolding wordOf
 word-none l = refl
+
+pub half-is : (s : List ℕ) (i : ℕ) → wordOf 4 (drop i s) ≡ getD s i 0 + getD s (i + 1) 0 * 256 + getD s (i + 2) 0 * 65536 + getD s (i + 3) 0 * 16777216
+half-is s i =
+    let a = word-step 3 s i (i + 1) refl in
+    let b = word-step 2 s (i + 1) (i + 2) (omega arith) in
+    let c = word-step 1 s (i + 2) (i + 3) (omega arith) in
+    let d = word-step 0 s (i + 3) (i + 4) (omega arith) in
+    let e = word-none (drop (i + 4) s) in
+    omega arith
 
 pub word-is : (s : List ℕ) (i : ℕ) → wordOf 8 (drop i s)
     ≡ getD s i 0 + getD s (i + 1) 0 * 256 + getD s (i + 2) 0 * 65536 + getD s (i + 3) 0 * 16777216

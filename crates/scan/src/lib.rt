@@ -1,7 +1,9 @@
 // Scans over lent bytes. Nothing is written, and no public function has a `requires`.
 mod words;
 
+use words::equal_half;
 use words::equal_words;
+use words::zero_half;
 use words::zero_words;
 ghost use mathlib.Core.Path.{_≡_};
 ghost use Prim.Native.Nat.{_≤_, min};
@@ -33,7 +35,7 @@ pub fn common_run(a: &[u8], b: &[u8]) -> usize
     ensures { λ r. ⌜ (r ≤ length (now (a .entry))) × (r ≤ length (now (b .entry))) ⌝ }
 {
     let n = least(a.len(), b.len());
-    let mut i = equal_words(a, b, n);
+    let mut i = equal_half(a, b, n, equal_words(a, b, n));
     while i < n {
         if a[i] != b[i] {
             return i;
@@ -65,7 +67,7 @@ pub fn zero_from(a: &[u8], from: usize) -> bool
     if a.len() <= from {
         return true;
     }
-    let mut i = zero_words(a, from);
+    let mut i = zero_half(a, zero_words(a, from));
     while i < a.len() {
         if a[i] != 0 {
             return false;

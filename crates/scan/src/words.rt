@@ -27,6 +27,14 @@ fn word_at(s: &[u8], at: usize) -> u64
         + wide(s[at + 7]) * 72057594037927936
 }
 
+// The four bytes from a place on, likewise.
+fn half_at(s: &[u8], at: usize) -> u64
+    requires { ⌜ at + 4 ≤ length (now s) ⌝ }
+    ensures { λ r. ⌜ r ≡ wordOf 4 (drop at (now (s .entry))) ⌝ }
+{
+    wide(s[at]) + wide(s[at + 1]) * 256 + wide(s[at + 2]) * 65536 + wide(s[at + 3]) * 16777216
+}
+
 // A place up to which the first n bytes agree, by words.
 pub(crate) fn equal_words(a: &[u8], b: &[u8], n: usize) -> usize
     requires { ⌜ (n ≤ length (now a)) × (n ≤ length (now b)) ⌝ }
@@ -46,6 +54,7 @@ pub(crate) fn equal_words(a: &[u8], b: &[u8], n: usize) -> usize
 // A place up to which the bytes from another on are zero, by words.
 pub(crate) fn zero_words(a: &[u8], from: usize) -> usize
     requires { ⌜ from ≤ length (now a) ⌝ }
+    ensures { λ r. ⌜ r ≤ length (now (a .entry)) ⌝ }
     ensures { λ r. ⌜ allZero (drop r (now (a .entry))) ≡ allZero (drop from (now (a .entry))) ⌝ }
 {
     let mut i = from;
@@ -56,4 +65,33 @@ pub(crate) fn zero_words(a: &[u8], from: usize) -> usize
         i += 8;
     }
     i
+}
+
+// The place i, or four bytes on where these agree.
+pub(crate) fn equal_half(a: &[u8], b: &[u8], n: usize, i: usize) -> usize
+    requires { ⌜ (n ≤ length (now a)) × (n ≤ length (now b)) × (i ≤ n) ⌝ }
+    ensures { λ r. ⌜ r ≤ n ⌝ }
+    ensures { λ r. ⌜ r + length (commonRun (drop r (now (a .entry))) (drop r (now (b .entry)))) ≡ i + length (commonRun (drop i (now (a .entry))) (drop i (now (b .entry)))) ⌝ }
+{
+    if n - i < 4 {
+        return i;
+    }
+    if half_at(a, i) != half_at(b, i) {
+        return i;
+    }
+    i + 4
+}
+
+// The place i, or four bytes on where these are zero.
+pub(crate) fn zero_half(a: &[u8], i: usize) -> usize
+    requires { ⌜ i ≤ length (now a) ⌝ }
+    ensures { λ r. ⌜ allZero (drop r (now (a .entry))) ≡ allZero (drop i (now (a .entry))) ⌝ }
+{
+    if a.len() - i < 4 {
+        return i;
+    }
+    if half_at(a, i) != 0 {
+        return i;
+    }
+    i + 4
 }

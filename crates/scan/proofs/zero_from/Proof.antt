@@ -1,7 +1,7 @@
 -- `scan::zero_from` meets its contract.
 use Rattle.model.specs.Record.{allZero}
 use lib.ListN.{length, drop}
-use mathlib.Core.Path.{_≡_}
+use mathlib.Core.Path.{_≡_, _∙_}
 use Prim.Native.Nat.{ℕ, _-_}
 use borrow.Author.Needs.{needs}
 use Rattle.scan.proofs.Scan.{scans}
@@ -22,8 +22,11 @@ returns c = search rules
 zero-words-requires : tie.Need-zero-words-requires Inv-loop μ-loop
 zero-words-requires c κs = search rules
 
+zero-half-requires : tie.Need-zero-half-requires Inv-loop μ-loop
+zero-half-requires c κs = search rules
+
 loop-holds : tie.Need-loop-holds Inv-loop μ-loop
-loop-holds c = search rules
+loop-holds c = c .zero-half .ensures ∙ c .before .zero-words .ensures .1
 
 shared-slice-read-if2 : tie.Need-shared-slice-read-if2 Inv-loop μ-loop
 shared-slice-read-if2 c = search rules
@@ -51,6 +54,7 @@ zero-from-spec =
     μ-loop
     returns
     zero-words-requires
+    zero-half-requires
     loop-holds
     shared-slice-read-if2
     returns-2

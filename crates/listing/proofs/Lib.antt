@@ -1,0 +1,5 @@
+pub mod Digits
+pub mod Texts
+pub mod SlotLines
+pub mod Inputs
+pub mod Listed

@@ -1,0 +1,109 @@
+-- The lines of a table's slots: each by its fields, and all of them in turn.
+use mathlib.Core.Path.{_≡_, refl, sym, ap, _∙_}
+use mathlib.Core.List.{List, [], _∷_, _++_, append-assoc}
+use mathlib.Core.Logic.{⊎-elim}
+use Prim.Native.Nat.{ℕ, _+_, _*_, _-_, _/_, _≤_, _<_, min}
+use native.Mathlib.Numerals.{add-one}
+use native.Mathlib.Omega.{arith}
+use borrow.Rule.Slice.PartMut.{putMid}
+use lib.ListN.{length, take, drop, length-take, List·getD-eq-default}
+use Rattle.model.specs.Record.{recordSize, pieces, records, recordAt, element, edgeOf}
+use Rattle.model.specs.RangePrefix.{PivotLcp}
+use Rattle.model.specs.Refusals.{over, into}
+use Rattle.model.specs.ShelfList.{tab, newline, decimal, keyText, elementText, edgeText, slotLine}
+use Rattle.model.proofs.Lists.{le-or-lt, into-over}
+use Rattle.model.proofs.Records.{length-pieces, piece-at}
+use Rattle.listing.specs.Text.{field, lineHead, lineRest, lineAt, linesTo}
+use Rattle.listing.proofs.Texts.{both-length, both-written}
+
+-- a record has at most 66 bytes
+pub record-short : (p l : List ℕ) (i : ℕ) → l ≡ recordAt p i → length l ≤ 66
+unfolding records
+record-short p l i e = ⊎-elim outside inside (le-or-lt (length p / recordSize) i)
+  where
+    outside : length p / recordSize ≤ i → length l ≤ 66
+    outside h =
+        let none : recordAt p i ≡ [] =
+        List·getD-eq-default (pieces recordSize (length p / recordSize) p) [] (omega (arith, length-pieces recordSize (length p / recordSize) p))
+        in
+        rw (e, none) (omega arith)
+
+    inside : i < length p / recordSize → length l ≤ 66
+    inside h = rw (e, piece-at recordSize (length p / recordSize) i p h) (omega (arith, length-take recordSize (drop (i * recordSize) p)))
+
+-- ---- one line
+
+-- a field before others
+before : (a b : List ℕ) (t : ℕ) → (a ++ t ∷ []) ++ b ≡ a ++ (t ∷ b)
+before a b t = append-assoc a (t ∷ []) b
+
+-- five fields one after the other
+five : (a b c d e : List ℕ) (t n : ℕ)
+    → ((a ++ t ∷ []) ++ ((b ++ t ∷ []) ++ (c ++ t ∷ []))) ++ ((d ++ t ∷ []) ++ (e ++ n ∷ []))
+    ≡ a ++ t ∷ b ++ t ∷ c ++ t ∷ d ++ t ∷ e ++ n ∷ []
+five a b c d e t n =
+    let e′ = e ++ n ∷ [] in
+    let d′ = d ++ (t ∷ e′) in
+    let c′ = c ++ (t ∷ d′) in
+    let b′ = b ++ (t ∷ c′) in
+    rw (
+      before d e′ t,
+      append-assoc (a ++ t ∷ []) ((b ++ t ∷ []) ++ (c ++ t ∷ [])) d′,
+      append-assoc (b ++ t ∷ []) (c ++ t ∷ []) d′,
+      before c d′ t,
+      before b c′ t,
+      before a b′ t,
+      append-assoc (a ++ t ∷ b ++ t ∷ c ++ t ∷ d) (t ∷ e) (n ∷ []),
+      append-assoc (a ++ t ∷ b ++ t ∷ c) (t ∷ d) (t ∷ e′),
+      append-assoc (a ++ t ∷ b) (t ∷ c) (t ∷ d′),
+      append-assoc a (t ∷ b) (t ∷ c′),
+    )
+
+module _ (p e l r g : List ℕ) (i : ℕ) (el : l ≡ recordAt p i) (er : r ≡ recordAt p (i + 1)) (eg : g ≡ recordAt e i) where
+  line-is : lineHead i l r ++ lineRest l r g ≡ lineAt p e i
+  unfolding lineAt slotLine field
+  line-is =
+      rw (el, er, eg)
+      (five (decimal i) (elementText (element (recordAt p i))) (elementText (element (recordAt p (i + 1))))
+      (keyText (PivotLcp (element (recordAt p i)) (element (recordAt p (i + 1))))) (edgeText (edgeOf (recordAt e i))) tab newline)
+
+  pub line-length : (n m : ℕ) → n ≡ length (lineHead i l r) → m ≡ length (lineRest l r g) → n + m ≡ length (lineAt p e i)
+  line-length n m ln lm = both-length n m (lineHead i l r) (lineRest l r g) ln lm ∙ ap length line-is
+
+  pub line-written : (n at : ℕ) (d v w : List ℕ) → n ≡ length (lineHead i l r) → v ≡ into (lineHead i l r) d → at ≡ min n (length v)
+      → w ≡ into (lineRest l r g) (take (length v - at) (drop at v)) → putMid at (length v - at) v w ≡ into (lineAt p e i) d
+  line-written n at d v w ln ev em ew =
+      both-written n at (lineHead i l r) (lineRest l r g) d v w ln ev em ew ∙ ap (λ (t : List ℕ). into t d) line-is
+
+-- ---- the loop over the slots
+
+module _ (p e : List ℕ) where
+  pub lines-none : 0 ≡ length (linesTo p e 0)
+  unfolding linesTo
+  lines-none = refl
+
+  pub lines-none-written : (d : List ℕ) → d ≡ into (linesTo p e 0) d
+  unfolding linesTo over
+  lines-none-written d = sym (into-over [] d (omega arith))
+
+  module _ (i : ℕ) where
+    next : linesTo p e i ++ lineAt p e i ≡ linesTo p e (i + 1)
+    unfolding linesTo
+    next = rw add-one
+
+    pub lines-length : (n m : ℕ) → n ≡ length (linesTo p e i) → m ≡ length (lineAt p e i) → n + m ≡ length (linesTo p e (i + 1))
+    lines-length n m ln lm = both-length n m (linesTo p e i) (lineAt p e i) ln lm ∙ ap length next
+
+    pub lines-written : (n at : ℕ) (d v w : List ℕ) → n ≡ length (linesTo p e i) → v ≡ into (linesTo p e i) d → at ≡ min n (length v)
+        → w ≡ into (lineAt p e i) (take (length v - at) (drop at v)) → putMid at (length v - at) v w ≡ into (linesTo p e (i + 1)) d
+    lines-written n at d v w ln ev em ew = both-written n at (linesTo p e i) (lineAt p e i) d v w ln ev em ew ∙ ap (λ (t : List ℕ). into t d) next
+
+    module _ (count : ℕ) (h : i ≤ count - 1) (k : count ≤ i + 1) where
+      last : i ≡ count - 1
+      last = omega arith
+
+      pub lines-end-length : (n : ℕ) → n ≡ length (linesTo p e i) → n ≡ length (linesTo p e (count - 1))
+      lines-end-length n ln = rw (← last) ln
+
+      pub lines-end-written : (d w : List ℕ) → w ≡ into (linesTo p e i) d → w ≡ into (linesTo p e (count - 1)) d
+      lines-end-written d w ew = rw (← last) ew

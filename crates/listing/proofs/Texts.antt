@@ -1,0 +1,190 @@
+-- What each return of the fields' functions is: the text's length, and the text written.
+use mathlib.Core.Path.{_≡_, refl, ap, _∙_}
+use mathlib.Core.Bool.{Bool, true, false}
+use mathlib.Core.List.{List, [], _∷_, _++_}
+use Prim.Native.Nat.{ℕ, _+_, _-_, _/_, _%_, _≤_, _<_, min}
+use native.Mathlib.Omega.{arith}
+use borrow.Author.Tests.{lt-ltb, le-ltb}
+use borrow.Rule.Slice.PartMut.{putMid}
+use lib.Dec.{eqb}
+use lib.ListN.{length, take, drop, length-append, length-take, length-drop}
+use Rattle.model.specs.Key.{Key}
+use Rattle.model.specs.Order.{key, max}
+use Rattle.model.specs.Record.{edge, noEdge, maxMark, noEdgeMark, lengthField, keyBytes, element, edgeOf}
+use Rattle.model.specs.RangePrefix.{PivotLcp}
+use Rattle.model.specs.Refusals.{into}
+use Rattle.model.specs.ShelfList.{tab, newline, digit, decimal, hex, dash, maxWord, keyText, elementText, edgeText}
+use Rattle.model.proofs.Lists.{length-over, written-on}
+use Rattle.model.proofs.Prefix.{prefix-is-take}
+use Rattle.model.proofs.RangePrefix.{prefix-of-left}
+use Rattle.listing.specs.Text.{field, pivotField, sharedField, edgeField}
+
+-- ---- two texts one after the other
+
+length-into : (a d : List ℕ) → length (into a d) ≡ length d
+unfolding into
+length-into a d = length-over (take (length d) a) d (omega (arith, length-take (length d) a))
+
+-- what is written after the first text, in what is lent on, follows it
+pub both-written : (n at : ℕ) (a b d v w : List ℕ) → n ≡ length a → v ≡ into a d → at ≡ min n (length v)
+    → w ≡ into b (take (length v - at) (drop at v)) → putMid at (length v - at) v w ≡ into (a ++ b) d
+both-written n at a b d v w l e m g =
+    let f : at ≡ min (length a) (length d) = rw (m, l, e, length-into a d) in
+    written-on at a b d v w f e g
+
+pub both-length : (n m : ℕ) (a b : List ℕ) → n ≡ length a → m ≡ length b → n + m ≡ length (a ++ b)
+both-length n m a b l k = rw (length-append, l, k)
+
+-- ---- a text and the byte that ends it
+
+pub field-length : (n end : ℕ) (t : List ℕ) → n ≡ length t → n + 1 ≡ length (field t end)
+unfolding field
+field-length n end t l = both-length n 1 t (end ∷ []) l refl
+
+pub field-written : (n at end : ℕ) (t d v w : List ℕ) → n ≡ length t → v ≡ into t d → at ≡ min n (length v)
+    → w ≡ into (end ∷ []) (take (length v - at) (drop at v)) → putMid at (length v - at) v w ≡ into (field t end) d
+unfolding field
+field-written n at end t d v w l e m g = both-written n at t (end ∷ []) d v w l e m g
+
+-- ---- a key
+
+module _ (k : Key) where
+  none-text : length k ≡ 0 → dash ≡ keyText k
+  unfolding keyText
+  none-text = go k
+    where
+      go : (k : Key) → length k ≡ 0 → dash ≡ keyText k
+      go [] h = refl
+      go (b ∷ k) h = absurd (omega arith)
+
+  some-text : (length k ≡ 0 → ⊥) → hex k ≡ keyText k
+  unfolding keyText hex
+  some-text = go k
+    where
+      go : (k : Key) → (length k ≡ 0 → ⊥) → hex k ≡ keyText k
+      go [] h = absurd (h refl)
+      go (b ∷ k) h = refl
+
+  pub none-length : length k ≡ 0 → 1 ≡ length (keyText k)
+  unfolding dash
+  none-length h = ap length (none-text h)
+
+  pub none-written : (d w : List ℕ) → length k ≡ 0 → w ≡ into (0x2d ∷ []) d → w ≡ into (keyText k) d
+  unfolding dash
+  none-written d w h e = e ∙ ap (λ (t : List ℕ). into t d) (none-text h)
+
+  pub some-length : (n : ℕ) → (length k ≡ 0 → ⊥) → n ≡ length (hex k) → n ≡ length (keyText k)
+  some-length n h e = e ∙ ap length (some-text h)
+
+  pub some-written : (d w : List ℕ) → (length k ≡ 0 → ⊥) → w ≡ into (hex k) d → w ≡ into (keyText k) d
+  some-written d w h e = e ∙ ap (λ (t : List ℕ). into t d) (some-text h)
+
+-- ---- a number
+
+module _ (n end : ℕ) where
+  pub one-length : n < 10 → 2 ≡ length (field (decimal n) end)
+  unfolding field decimal
+  one-length h = rw (lt-ltb n 10 h)
+
+  pub one-written : (x : ℕ) (d w : List ℕ) → n < 10 → x ≡ digit n → w ≡ into (x ∷ end ∷ []) d → w ≡ into (field (decimal n) end) d
+  unfolding field decimal
+  one-written x d w h f e = rw (lt-ltb n 10 h, ← f) e
+
+  pub two-length : 10 ≤ n → 3 ≡ length (field (decimal n) end)
+  unfolding field decimal
+  two-length h = rw (le-ltb n 10 h)
+
+  pub two-written : (x y : ℕ) (d w : List ℕ) → 10 ≤ n → x ≡ digit (n / 10) → y ≡ digit (n % 10) → w ≡ into (x ∷ y ∷ end ∷ []) d
+      → w ≡ into (field (decimal n) end) d
+  unfolding field decimal
+  two-written x y d w h f g e = rw (le-ltb n 10 h, ← f, ← g) e
+
+-- ---- a pivot
+
+-- the key of a record has at most 64 bytes
+pub key-short : (r k : List ℕ) → k ≡ keyBytes r → length r ≤ 66 → length k ≤ 64
+unfolding keyBytes
+key-short r k e h = rw e (omega (arith, length-take (lengthField r) (drop 2 r), length-drop 2 r))
+
+module _ (r : List ℕ) (t : Bool) (e : t ≡ eqb (lengthField r) maxMark) where
+  is-max : t ≡ true → element r ≡ max
+  unfolding element
+  is-max h = rw (← e, h)
+
+  is-key : t ≡ false → element r ≡ key (keyBytes r)
+  unfolding element
+  is-key h = rw (← e, h)
+
+  pub max-length : t ≡ true → 4 ≡ length (pivotField r)
+  unfolding field elementText maxWord
+  max-length h = rw (is-max h)
+
+  pub max-written : (d w : List ℕ) → t ≡ true → w ≡ into (0x6d ∷ 0x61 ∷ 0x78 ∷ 0x09 ∷ []) d → w ≡ into (pivotField r) d
+  unfolding field elementText maxWord
+  max-written d w h f = rw (is-max h) f
+
+  pub pivot-length : (n : ℕ) (k : Key) → k ≡ keyBytes r → t ≡ false → n ≡ length (field (keyText k) tab) → n ≡ length (pivotField r)
+  unfolding elementText
+  pivot-length n k g h f = rw (is-key h, ← g) f
+
+  pub pivot-written : (k : Key) (d w : List ℕ) → k ≡ keyBytes r → t ≡ false → w ≡ into (field (keyText k) tab) d
+      → w ≡ into (pivotField r) d
+  unfolding elementText
+  pivot-written k d w g h f = rw (is-key h, ← g) f
+
+-- ---- the prefix of a range
+
+-- a part of a record's key has at most 64 bytes
+pub part-short : (r k : List ℕ) (n : ℕ) → k ≡ keyBytes r → length r ≤ 66 → length (take n k) ≤ 64
+part-short r k n e h = omega (arith, key-short r k e h, length-take n k)
+
+module _ (l r : List ℕ) (t : Bool) (e : t ≡ eqb (lengthField l) maxMark) where
+  no-prefix : t ≡ true → PivotLcp (element l) (element r) ≡ []
+  unfolding PivotLcp
+  no-prefix h = rw (is-max l t e h)
+
+  the-prefix : (n : ℕ) (k : Key) → k ≡ keyBytes l → t ≡ false → n ≡ length (PivotLcp (key k) (element r)) → take n k ≡ PivotLcp (element l) (element r)
+  the-prefix n k g h f = rw (is-key l t e h, ← g, f) (prefix-is-take (PivotLcp (key k) (element r)) k (prefix-of-left k (element r)))
+
+  pub no-prefix-length : (n : ℕ) → t ≡ true → n ≡ length (field (keyText []) tab) → n ≡ length (sharedField l r)
+  no-prefix-length n h f = rw (no-prefix h) f
+
+  pub no-prefix-written : (d w : List ℕ) → t ≡ true → w ≡ into (field (keyText []) tab) d
+      → w ≡ into (sharedField l r) d
+  no-prefix-written d w h f = rw (no-prefix h) f
+
+  pub prefix-length : (n m : ℕ) (k : Key) → k ≡ keyBytes l → t ≡ false → n ≡ length (PivotLcp (key k) (element r))
+      → m ≡ length (field (keyText (take n k)) tab) → m ≡ length (sharedField l r)
+  prefix-length n m k g h f q = rw (← the-prefix n k g h f) q
+
+  pub prefix-written : (n : ℕ) (k : Key) (d w : List ℕ) → k ≡ keyBytes l → t ≡ false → n ≡ length (PivotLcp (key k) (element r))
+      → w ≡ into (field (keyText (take n k)) tab) d → w ≡ into (sharedField l r) d
+  prefix-written n k d w g h f q = rw (← the-prefix n k g h f) q
+
+-- ---- an edge
+
+module _ (r : List ℕ) (t : Bool) (e : t ≡ eqb (lengthField r) noEdgeMark) where
+  is-none : t ≡ true → edgeOf r ≡ noEdge
+  unfolding edgeOf
+  is-none h = rw (← e, h)
+
+  is-edge : t ≡ false → edgeOf r ≡ edge (keyBytes r)
+  unfolding edgeOf
+  is-edge h = rw (← e, h)
+
+  pub no-edge-length : t ≡ true → 2 ≡ length (edgeField r)
+  unfolding field edgeText dash
+  no-edge-length h = rw (is-none h)
+
+  pub no-edge-written : (d w : List ℕ) → t ≡ true → w ≡ into (0x2d ∷ 0x0a ∷ []) d → w ≡ into (edgeField r) d
+  unfolding field edgeText dash
+  no-edge-written d w h f = rw (is-none h) f
+
+  pub edge-length : (n : ℕ) (k : Key) → k ≡ keyBytes r → t ≡ false → n ≡ length (field (keyText k) newline) → n ≡ length (edgeField r)
+  unfolding edgeText
+  edge-length n k g h f = rw (is-edge h, ← g) f
+
+  pub edge-written : (k : Key) (d w : List ℕ) → k ≡ keyBytes r → t ≡ false → w ≡ into (field (keyText k) newline) d
+      → w ≡ into (edgeField r) d
+  unfolding edgeText
+  edge-written k d w g h f = rw (is-edge h, ← g) f

@@ -1,0 +1,40 @@
+-- `listing::fields::key_text` meets its contract.
+use Rattle.listing.proofs.Texts.{none-length, none-written, some-length, some-written}
+use borrow.Author.Needs.{needs}
+use Rattle.listing.proofs.fields.key_text.Statement.{statement}
+use Rattle.listing.proofs.fields.key_text.Tie as tie
+
+ruleset rules = (needs, none-length, none-written, some-length, some-written)
+
+slice-aggregate-copy : tie.Need-slice-aggregate-copy
+slice-aggregate-copy c = search rules
+
+copy-requires : tie.Need-copy-requires
+copy-requires c κs = search rules
+
+same-length : tie.Need-same-length
+same-length c = search rules
+
+returns : tie.Need-returns
+returns c = ((search rules, search rules), search rules)
+
+hex-text-requires : tie.Need-hex-text-requires
+hex-text-requires c κs = search rules
+
+same-length-2 : tie.Need-same-length-2
+same-length-2 c = search rules
+
+returns-2 : tie.Need-returns-2
+returns-2 c = ((search rules, search rules), search rules)
+
+pub key-text-spec : {M : Type 1} → statement M
+key-text-spec =
+    tie.close
+    (tie.spec
+    slice-aggregate-copy
+    copy-requires
+    same-length
+    returns
+    hex-text-requires
+    same-length-2
+    returns-2)

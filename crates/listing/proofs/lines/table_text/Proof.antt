@@ -1,0 +1,54 @@
+-- `listing::lines::table_text` meets its contract.
+use Rattle.model.specs.ShelfList.{header}
+use Rattle.listing.proofs.Texts.{both-length, both-written}
+use borrow.Author.Needs.{needs}
+use Rattle.listing.proofs.lines.table_text.Statement.{statement}
+use Rattle.listing.proofs.lines.table_text.Tie as tie
+
+ruleset rules = (needs, both-length, both-written)
+
+slice-aggregate-copy : tie.Need-slice-aggregate-copy
+slice-aggregate-copy c = search rules
+
+copy-requires : tie.Need-copy-requires
+copy-requires c κs = search rules
+
+least-requires : tie.Need-least-requires
+least-requires c κs = search rules
+
+sub-slot-lines : tie.Need-sub-slot-lines
+sub-slot-lines c = search rules
+
+part-slot-lines-start : tie.Need-part-slot-lines-start
+part-slot-lines-start c = search rules
+
+part-slot-lines-end : tie.Need-part-slot-lines-end
+part-slot-lines-end c = search rules
+
+slot-lines-requires : tie.Need-slot-lines-requires
+slot-lines-requires c κs = search rules
+
+add-result : tie.Need-add-result
+add-result c = search rules
+
+same-length : tie.Need-same-length
+same-length c = search rules
+
+returns : tie.Need-returns
+unfolding header
+returns c = (search rules, search rules)
+
+pub table-text-spec : {M : Type 1} → statement M
+table-text-spec =
+    tie.close
+    (tie.spec
+    slice-aggregate-copy
+    copy-requires
+    least-requires
+    sub-slot-lines
+    part-slot-lines-start
+    part-slot-lines-end
+    slot-lines-requires
+    add-result
+    same-length
+    returns)

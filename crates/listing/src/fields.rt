@@ -1,0 +1,134 @@
+// The fields of a line. Each is written at the head of dest as far as there is room, and its length is answered.
+ghost use mathlib.Core.Path.{_≡_};
+ghost use Prim.Native.Nat.{_+_, _*_, _≤_, _<_};
+ghost use lib.ListN.{length, getD};
+ghost use Rattle.model.specs.Refusals.{into};
+ghost use Rattle.model.specs.ShelfList.{digit, decimal, hex, keyText};
+ghost use Rattle.listing.specs.Text.{field, pivotField, sharedField, edgeField};
+
+fn wide(x: u8) -> usize
+    ensures { λ r. ⌜ (r ≡ x) × (r < 256) ⌝ }
+{
+    x as usize
+}
+
+// The digit of a number below 16.
+fn digit_of(d: usize) -> u8
+    requires { ⌜ d < 16 ⌝ }
+    ensures { λ r. ⌜ r ≡ digit d ⌝ }
+{
+    if d < 10 {
+        return (48 + d) as u8;
+    }
+    (87 + d) as u8
+}
+
+// The digit at a place among a key's digits, two for each byte.
+fn hex_digit(k: &[u8], i: usize) -> u8
+    requires { ⌜ i < length (now k) * 2 ⌝ }
+    ensures { λ r. ⌜ r ≡ getD (hex (now (k .entry))) i 0 ⌝ }
+{
+    let b = wide(k[i / 2]);
+    if i % 2 == 0 {
+        return digit_of(b / 16);
+    }
+    digit_of(b % 16)
+}
+
+// The digits of a key.
+fn hex_text(k: &[u8], dest: &mut [u8]) -> usize
+    requires { ⌜ length (now k) ≤ 64 ⌝ }
+    ensures length { λ r. ⌜ (r ≡ length (hex (now (k .entry)))) × (r ≤ 128) ⌝ }
+    ensures written { λ r. ⌜ now (dest .exit) ≡ into (hex (now (k .entry))) (now (dest .entry)) ⌝ }
+{
+    let len = k.len() * 2;
+    let n = scan::least(len, dest.len());
+    let mut i = 0;
+    while i < n {
+        dest[i] = hex_digit(k, i);
+        i += 1;
+    }
+    len
+}
+
+// A key, or `-` for the empty one.
+fn key_text(k: &[u8], dest: &mut [u8]) -> usize
+    requires { ⌜ length (now k) ≤ 64 ⌝ }
+    ensures length { λ r. ⌜ (r ≡ length (keyText (now (k .entry)))) × (r ≤ 128) ⌝ }
+    ensures written { λ r. ⌜ now (dest .exit) ≡ into (keyText (now (k .entry))) (now (dest .entry)) ⌝ }
+{
+    if k.len() == 0 {
+        records::copy(b"-", dest);
+        return 1;
+    }
+    hex_text(k, dest)
+}
+
+// A key and the byte that ends its field.
+fn key_field(k: &[u8], end: u8, dest: &mut [u8]) -> usize
+    requires { ⌜ length (now k) ≤ 64 ⌝ }
+    ensures length { λ r. ⌜ (r ≡ length (field (keyText (now (k .entry))) end)) × (r ≤ 129) ⌝ }
+    ensures written { λ r. ⌜ now (dest .exit) ≡ into (field (keyText (now (k .entry))) end) (now (dest .entry)) ⌝ }
+{
+    let n = key_text(k, dest);
+    let at = scan::least(n, dest.len());
+    let last = [end];
+    records::copy(&last, &mut dest[at..]);
+    n + 1
+}
+
+// A pivot.
+pub(crate) fn element_field(rec: &[u8], dest: &mut [u8]) -> usize
+    requires { ⌜ length (now rec) ≤ 66 ⌝ }
+    ensures length { λ r. ⌜ (r ≡ length (pivotField (now (rec .entry)))) × (r ≤ 129) ⌝ }
+    ensures written { λ r. ⌜ now (dest .exit) ≡ into (pivotField (now (rec .entry))) (now (dest .entry)) ⌝ }
+{
+    if records::is_max(rec) {
+        records::copy(b"max\t", dest);
+        return 4;
+    }
+    key_field(records::key_bytes(rec), b'\t', dest)
+}
+
+// The prefix of the range between two pivots.
+pub(crate) fn shared_field(left: &[u8], right: &[u8], dest: &mut [u8]) -> usize
+    requires { ⌜ length (now left) ≤ 66 ⌝ }
+    ensures length { λ r. ⌜ (r ≡ length (sharedField (now (left .entry)) (now (right .entry)))) × (r ≤ 129) ⌝ }
+    ensures written { λ r. ⌜ now (dest .exit) ≡ into (sharedField (now (left .entry)) (now (right .entry))) (now (dest .entry)) ⌝ }
+{
+    let k = records::key_bytes(left);
+    if records::is_max(left) {
+        return key_field(&k[..0], b'\t', dest);
+    }
+    let n = range_prefix::range_prefix_len(k, right);
+    key_field(&k[..n], b'\t', dest)
+}
+
+// An edge, which is the last of a line.
+pub(crate) fn edge_field(rec: &[u8], dest: &mut [u8]) -> usize
+    requires { ⌜ length (now rec) ≤ 66 ⌝ }
+    ensures length { λ r. ⌜ (r ≡ length (edgeField (now (rec .entry)))) × (r ≤ 129) ⌝ }
+    ensures written { λ r. ⌜ now (dest .exit) ≡ into (edgeField (now (rec .entry))) (now (dest .entry)) ⌝ }
+{
+    if records::is_no_edge(rec) {
+        records::copy(b"-\n", dest);
+        return 2;
+    }
+    key_field(records::key_bytes(rec), b'\n', dest)
+}
+
+// A number below 100 and the byte that ends its field.
+pub(crate) fn number_field(n: usize, end: u8, dest: &mut [u8]) -> usize
+    requires { ⌜ n < 100 ⌝ }
+    ensures length { λ r. ⌜ (r ≡ length (field (decimal n) end)) × (r ≤ 3) ⌝ }
+    ensures written { λ r. ⌜ now (dest .exit) ≡ into (field (decimal n) end) (now (dest .entry)) ⌝ }
+{
+    if n < 10 {
+        let one = [digit_of(n), end];
+        records::copy(&one, dest);
+        return 2;
+    }
+    let two = [digit_of(n / 10), digit_of(n % 10), end];
+    records::copy(&two, dest);
+    3
+}

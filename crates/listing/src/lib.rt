@@ -1,0 +1,7 @@
+// The list of a table, as text. No public function has a `requires`.
+mod fields;
+mod input;
+mod lines;
+mod table;
+
+pub use table::list_table;
