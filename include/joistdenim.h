@@ -167,6 +167,19 @@ uint32_t jd_translate_key(const uint8_t *pivots, size_t pivots_len,
                           const uint8_t *key, size_t key_len,
                           uint8_t *dest, size_t dest_len, uint64_t *length);
 
+/* ---- The list of a table, as text. */
+
+/* Writes the list of the table in the input; answers the text's length, at most 32715. The input
+ * is the count of the pivots in two bytes, high byte first, the pivots and the edges. The text is
+ * the line "slot left right shared edge" and a line for each slot: its number from 0, its two
+ * pivots, the range's prefix and the edge. A tab parts two fields, and 0A ends each line. Keys
+ * are lower-case hexadecimal; max is "max", and the empty key and no edge are "-".
+ * An input with missing or extra bytes, or that is no table, is accepted too: its text is
+ * "refused", a tab, the number of JD_SHAPE, JD_MALFORMED, JD_UNSORTED or JD_EMPTY_PREFIX, and 0A.
+ * Refuses JD_NO_ROOM. */
+uint32_t jd_list_table(const uint8_t *input, size_t input_len,
+                       uint8_t *dest, size_t dest_len, uint64_t *length);
+
 #ifdef __cplusplus
 }
 #endif

@@ -1,7 +1,8 @@
 /*
  * Each function on single keys from C: a normal case, each of its refusals, and which refusal
  * comes first where two apply. Around every destination stand bytes that must not change. Then a
- * key's way through a table: cuts and translations, whose refusals are in cuts.c.
+ * key's way through a table: cuts and translations, whose refusals are in cuts.c. Then a table's
+ * list; more of it is in list.c.
  */
 #include "table.h"
 
@@ -182,6 +183,17 @@ static void key_through_t(void)
     translate("translate_key: 5", t, BYTES("B"), ROOM, JD_OUT_OF_RANGE, none);
 }
 
+/* ---- the list of a table */
+
+static void list_table_checks(void)
+{
+    pair t = {TABLE(key(BYTES("A0")), key(BYTES("A5"))), key(BYTES("C"))};
+    slice text = BYTES("slot\tleft\tright\tshared\tedge\n0\t4130\t4135\t41\t43\n");
+    list("list_table: one slot", input(2, t), text.length, 0, text);
+    list("list_table: refused", input(1, t), LONGEST_LIST, 0, BYTES("refused\t1\n"));
+    list("list_table: 10", input(2, t), text.length - 1, JD_NO_ROOM, none);
+}
+
 int main(void)
 {
     compare_checks();
@@ -191,5 +203,6 @@ int main(void)
     pivot_lcp_checks();
     shortest_uncommon_prefix_checks();
     key_through_t();
+    list_table_checks();
     return report();
 }

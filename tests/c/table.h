@@ -1,6 +1,6 @@
 /*
- * What the C programs on tables share: tables of records, good and bad, and cuts of them into
- * two destinations between bytes that must not change.
+ * What the C programs on tables share: tables of records, good and bad, and cuts and lists of
+ * them into destinations between bytes that must not change.
  */
 #ifndef TABLE_H
 #define TABLE_H
@@ -120,6 +120,36 @@ static inline void translate(const char *name, pair table, slice k, size_t dest,
                                     table.edges.length, k.bytes, k.length, to, dest, &number);
     result(name, got, number, wanted, written.length);
     left(name, written);
+}
+
+/* ---- lists */
+
+#define LONGEST_LIST 32715
+#define INPUT_ROOM (2 + (2 * JD_MAX_PIVOTS + 3) * JD_RECORD_SIZE)
+
+/* An input of the list: a count and a table. The last 8 made stand side by side. */
+static inline slice input(unsigned count, pair table)
+{
+    static uint8_t inputs[8][INPUT_ROOM];
+    static unsigned next;
+    uint8_t *in = inputs[next++ % 8];
+    in[0] = (uint8_t)(count >> 8);
+    in[1] = (uint8_t)count;
+    memcpy(in + 2, table.pivots.bytes, table.pivots.length);
+    memcpy(in + 2 + table.pivots.length, table.edges.bytes, table.edges.length);
+    return (slice){in, 2 + table.pivots.length + table.edges.length};
+}
+
+static uint8_t list_room[GUARD + LONGEST_LIST + GUARD];
+
+/* The list of an input, into a destination of this length. */
+static inline void list(const char *name, slice in, size_t dest, uint32_t wanted, slice written)
+{
+    uint64_t number = NUMBER_BEFORE;
+    uint8_t *to = refill(list_room, sizeof list_room);
+    uint32_t got = jd_list_table(in.bytes, in.length, to, dest, &number);
+    result(name, got, number, wanted, written.length);
+    count(holds(list_room, sizeof list_room, written), name);
 }
 
 #endif

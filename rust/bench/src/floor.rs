@@ -1,8 +1,7 @@
 //! The floor: what any program must do that looks at every byte it is lent and writes the result.
-use crate::case::{Dests, Slices};
+use crate::case::{Dests, Slices, ROOM};
 
-const LONGEST: usize = joistdenim::MAX_PIVOTS * joistdenim::RECORD_SIZE;
-static SOURCE: [u8; LONGEST] = [0x41; LONGEST];
+static SOURCE: [u8; ROOM] = [0x41; ROOM];
 
 /// A sum in bytes, which the compiler turns into whole registers of them.
 fn checksum(bytes: &[u8]) -> u8 {

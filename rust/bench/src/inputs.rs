@@ -92,6 +92,12 @@ impl Table {
         }
     }
 
+    /// The table as its list is asked for: the count of the pivots before them and the edges.
+    pub fn input(&self) -> Rc<[u8]> {
+        let count = (self.keys.len() as u16).to_be_bytes();
+        [&count[..], &self.pivots, &self.edges].concat().into()
+    }
+
     /// A key as long as the pivots, inside a random slot. Half of the keys share one byte more
     /// with the pivot on their left, so that a left cut at them has a longer edge to write.
     pub fn key_inside(&self, random: &mut Xorshift) -> Rc<[u8]> {

@@ -76,6 +76,7 @@ fn checks(cases: &[Case]) {
         ("translate_key", "wf_edges"),
         ("split_left", "wf_edges"),
         ("split_right", "wf_edges"),
+        ("list_table", "wf_edges"),
     ];
     for (call, check) in pairs {
         for key in table_calls::KEYS {

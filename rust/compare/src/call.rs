@@ -10,6 +10,8 @@ pub enum Kind {
     Entry,
     Pivots,
     Edges,
+    /// The count of the pivots, the pivots and the edges.
+    Input,
 }
 
 pub struct Call {

@@ -1,9 +1,9 @@
 //! Groups for the cuts and the translation of a key.
 mod by_hand;
 mod calls;
-mod inputs;
+pub mod inputs;
 mod random;
-mod small;
+pub mod small;
 mod two_orders;
 mod wrapper;
 

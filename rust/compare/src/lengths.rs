@@ -4,6 +4,7 @@
 use crate::call::{Asked, Call, Kind, MOST_DESTS};
 use crate::group::Group;
 use crate::inputs::{counted, entry, field_record, record, MAX, NO_EDGE};
+use crate::list::inputs::usual_inputs;
 use crate::tables::inputs::{usual_edges, usual_pivots};
 
 const LONGEST: usize = 140;
@@ -26,6 +27,7 @@ pub fn usual(kind: Kind) -> Vec<Vec<u8>> {
         Kind::Entry => records.map(|r| entry(r).to_vec()).collect(),
         Kind::Pivots => usual_pivots(),
         Kind::Edges => usual_edges(),
+        Kind::Input => usual_inputs(),
     }
 }
 

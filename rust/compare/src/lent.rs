@@ -141,7 +141,7 @@ pub fn is_as_before(number: u64) -> bool {
 /// What stands in the first or the second destination before a call. It differs from case to
 /// case, so that a byte written can't always be the byte that was there.
 pub fn before(which: usize, len: usize, salt: u8) -> &'static [u8] {
-    const MOST: usize = 8192;
+    const MOST: usize = 40_000;
     static PATTERN: OnceLock<Vec<u8>> = OnceLock::new();
     let pattern = PATTERN.get_or_init(|| {
         let mut random = crate::inputs::Xorshift::new(0x5EED);

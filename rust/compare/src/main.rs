@@ -8,6 +8,7 @@ mod inputs;
 mod key_calls;
 mod lengths;
 mod lent;
+mod list;
 mod malformed;
 mod orders;
 mod random;
@@ -95,6 +96,7 @@ fn main() -> ExitCode {
         tests_of_every_call(),
         tables::tests(),
         cuts::tests(),
+        list::tests(),
     ];
     for test in tests.into_iter().flatten() {
         let mut group = Group::default();

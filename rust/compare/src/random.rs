@@ -3,6 +3,7 @@
 use crate::call::{Asked, Call, Kind, MOST_DESTS};
 use crate::group::Group;
 use crate::inputs::{entry, field_record, record, Xorshift, BYTES, MAX, NO_EDGE};
+use crate::list::inputs::joined;
 use crate::tables::inputs::{random_edges, random_pivots};
 
 const SEED: u64 = 20_250_627;
@@ -68,6 +69,7 @@ fn slice(random: &mut Xorshift, kind: Kind, base: &[u8]) -> Vec<u8> {
         },
         Kind::Pivots => random_pivots(random, base),
         Kind::Edges => random_edges(random, base),
+        Kind::Input => joined(&random_pivots(random, base), &random_edges(random, base)),
     }
 }
 

@@ -14,12 +14,14 @@
 
 mod cuts;
 mod keys;
+mod list;
 pub mod raw;
 mod refusal;
 mod tables;
 
 pub use cuts::{split_left, split_right, translate_key};
 pub use keys::{change_prefix, compare, entry_key, pivot_key, pivot_lcp, shortest_uncommon_prefix};
+pub use list::list_table;
 pub use refusal::Refusal;
 pub use tables::{
     bounded_key, contains_all_keys, contains_range, cutoff_for_left, cutoff_for_right, get_key,

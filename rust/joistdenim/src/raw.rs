@@ -4,8 +4,10 @@
 //! not be null and must be good for their lengths, and what is written overlaps nothing else.
 
 mod cuts;
+mod list;
 mod tables;
 pub use cuts::*;
+pub use list::*;
 pub use tables::*;
 
 extern "C" {

@@ -10,6 +10,9 @@
 mod cut_tests;
 mod cuts;
 mod keys;
+mod list;
+#[cfg(test)]
+mod list_tests;
 mod plain_cut;
 mod range_prefix;
 mod record;
@@ -25,6 +28,7 @@ mod upper_bound;
 
 pub use cuts::{split_left, split_right};
 pub use keys::{change_prefix, compare, entry_key, pivot_key};
+pub use list::list_table;
 pub use plain_cut::{plain_cut, PlainCut};
 pub use range_prefix::{pivot_lcp, range_prefix};
 pub use record::{Edge, Element, ENTRY_SIZE, MAX_LEN, RECORD_SIZE};

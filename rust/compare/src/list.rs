@@ -1,0 +1,31 @@
+//! Groups for the list of a table.
+mod by_hand;
+mod calls;
+pub mod inputs;
+mod random;
+mod small;
+mod wrapper;
+
+use crate::{lengths, test, Test};
+use calls::LIST_TABLE;
+
+pub fn tests() -> Vec<Test> {
+    vec![
+        test("list of T by hand", by_hand::list_of_t),
+        test("lists: refused by hand", by_hand::refused),
+        test("lists: the longest text by hand", by_hand::longest),
+        test("list_table: lengths", |group| {
+            lengths::every_length(group, &LIST_TABLE)
+        }),
+        test("list_table: any tables, random", |group| {
+            crate::random::cases(group, &LIST_TABLE, 60_000)
+        }),
+        test("list_table: small tables", small::all_edges),
+        test("list_table: every cut and count", small::cut_short),
+        test("list_table: random", |group| random::good(group, 10_000)),
+        test("list_table: random with faults", |group| {
+            random::spoiled(group, 30_000)
+        }),
+        test("wrapper: list", wrapper::list),
+    ]
+}

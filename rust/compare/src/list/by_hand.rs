@@ -1,0 +1,88 @@
+//! Lists written down by hand, from document 01.
+use super::calls::LIST_TABLE;
+use super::inputs::{counted_as, input_of_t, joined, ROOM};
+use crate::call::Asked;
+use crate::group::{Group, Wanted};
+use crate::inputs::{field_record, record, MAX, NO_EDGE};
+use crate::tables::inputs::{absent, edges_of_t, pivots_of_t, rising, table, with};
+
+const LIST_OF_T: &str =
+    "slot\tleft\tright\tshared\tedge\n0\t4130\t4135\t41\t43\n1\t4135\t42\t41\t-\n";
+
+/// The text, in a destination exactly long enough and in a longer one; and 10 a byte below.
+fn listed(group: &mut Group, input: &[u8], text: &str) {
+    let wanted = || Wanted::Answer(text.len() as i64, text.as_bytes());
+    let cases = [
+        (text.len(), wanted()),
+        (text.len() + 9, wanted()),
+        (text.len() - 1, Wanted::Refusal(10)),
+        (0, Wanted::Refusal(10)),
+    ];
+    for (dest, wanted) in &cases {
+        let place = 0;
+        group.expect(&LIST_TABLE, &Asked::new(&[input], place, *dest), wanted);
+    }
+}
+
+pub fn list_of_t(group: &mut Group) {
+    listed(group, &input_of_t(), LIST_OF_T);
+    let header = "slot\tleft\tright\tshared\tedge\n";
+    let first = joined(&[record(&[]), field_record(MAX)].concat(), &absent(1));
+    listed(group, &first, &format!("{header}0\t-\tmax\t-\t-\n"));
+    let to_max = [record(&[0xFF, 0x0A]), field_record(MAX)].concat();
+    let empty_edge = joined(&to_max, &record(&[]));
+    listed(
+        group,
+        &empty_edge,
+        &format!("{header}0\tff0a\tmax\tff\t-\n"),
+    );
+}
+
+pub fn refused(group: &mut Group) {
+    let (pivots, edges, t) = (pivots_of_t(), edges_of_t(), input_of_t());
+    let mut refused = |number: u32, input: &[u8]| {
+        listed(group, input, &format!("refused\t{number}\n"));
+    };
+    refused(1, &[]);
+    refused(1, &[0]);
+    refused(1, &[0, 0]);
+    refused(1, &t[..t.len() - 1]);
+    refused(1, &[&t[..], &[0]].concat());
+    refused(1, &joined(&rising(1), &[]));
+    refused(1, &joined(&rising(65), &absent(64)));
+    for count in [0, 1, 2, 4, 65, 0x0103, 0x0300, 0xFFFF] {
+        refused(1, &counted_as(count, &pivots, &edges));
+    }
+    refused(2, &joined(&with(&pivots, 0, &field_record(MAX)), &edges));
+    refused(2, &joined(&pivots, &with(&edges, 1, &field_record(65))));
+    let falling = table(&[&[0x42], &[0x41], &[0x43]]);
+    refused(3, &joined(&falling, &edges));
+    refused(
+        2,
+        &joined(&with(&falling, 2, &field_record(NO_EDGE)), &edges),
+    );
+    let apart = table(&[&[0x41], &[0x43], &[0x43, 0x30]]);
+    refused(4, &joined(&apart, &edges));
+    refused(4, &joined(&apart, &with(&edges, 0, &record(&[]))));
+}
+
+/// 64 neighbours of 64 bytes, each the prefix of its slot, and edges of 64 bytes.
+pub fn longest(group: &mut Group) {
+    let head = [0x41; 63];
+    let keys: Vec<Vec<u8>> = (0..64).map(|i| [&head[..], &[i]].concat()).collect();
+    let keys: Vec<&[u8]> = keys.iter().map(|key| &key[..]).collect();
+    let input = joined(&table(&keys), &record(&[0x43; 64]).repeat(63));
+    let mut text = "slot\tleft\tright\tshared\tedge\n".to_string();
+    let (head, edge) = ("41".repeat(63), "43".repeat(64));
+    for slot in 0..63 {
+        let (left, right) = (
+            format!("{head}{slot:02x}"),
+            format!("{head}{:02x}", slot + 1),
+        );
+        text += &format!("{slot}\t{left}\t{right}\t{left}\t{edge}\n");
+    }
+    group.check(text.len() + 7 == ROOM, || {
+        format!("the text has {} bytes", text.len())
+    });
+    listed(group, &input, &text);
+}

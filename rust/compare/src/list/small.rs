@@ -1,0 +1,34 @@
+//! All small tables with each sort of edge in each slot; and T and the largest table with every
+//! length and every count.
+use super::inputs::{around, counted_as, joined};
+use crate::cuts::small::{each_edges, tables, SHARED};
+use crate::group::Group;
+use crate::tables::inputs::{absent, edges_of_t, pivots_of_t, rising};
+
+/// Some slots have an edge over an empty prefix: 4.
+pub fn all_edges(group: &mut Group) {
+    let edges: [&[u8]; 4] = [&[], &[0x0A], &[0x44; 63], &[0xEF; 64]];
+    for shared in SHARED {
+        for mut table in tables(shared) {
+            each_edges(&mut table, &edges, |table| {
+                around(group, &joined(&table.pivots, &table.edges));
+            });
+        }
+    }
+}
+
+/// Every length up to two records more than the table has, and every count up to 70 and some
+/// large ones.
+pub fn cut_short(group: &mut Group) {
+    for (pivots, edges) in [(pivots_of_t(), edges_of_t()), (rising(64), absent(63))] {
+        let mut longer = joined(&pivots, &edges);
+        longer.extend(absent(2));
+        for len in 0..=longer.len() {
+            around(group, &longer[..len]);
+        }
+        let large = [0x0103, 0x0140, 0x0300, 0x4000, 0x7FFF, 0x8000, 0xFFFF];
+        for count in (0..=70).chain(large) {
+            around(group, &counted_as(count, &pivots, &edges));
+        }
+    }
+}

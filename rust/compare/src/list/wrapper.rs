@@ -1,0 +1,28 @@
+//! The safe wrapper's list against the reference.
+use super::inputs::{dests_around, joined, usual_inputs};
+use crate::cuts::inputs::good_table;
+use crate::group::Group;
+use crate::inputs::Xorshift;
+use crate::wrapper::{into, same};
+
+const SEED: u64 = 20_300_627;
+
+fn each_dest(group: &mut Group, input: &[u8]) {
+    for dest in dests_around(input) {
+        let (got, left) = into(dest, |d| joistdenim::list_table(input, d));
+        let (wanted, right) = into(dest, |d| reference::list_table(input, d));
+        same(group, "list_table", &[input], got, wanted);
+        same(group, "list_table", &[input], Ok(left), Ok(right));
+    }
+}
+
+pub fn list(group: &mut Group) {
+    for input in usual_inputs() {
+        each_dest(group, &input);
+    }
+    let mut random = Xorshift::new(SEED);
+    for _ in 0..1000 {
+        let table = good_table(&mut random);
+        each_dest(group, &joined(&table.pivots, &table.edges));
+    }
+}
