@@ -1,15 +1,15 @@
 -- `records::copy` meets its contract.
+use borrow.Author.Needs.{needs}
+use Rattle.records.proofs.Writing.{set-kept, copy-turn, copy-end}
 use mathlib.Core.List.{_++_}
 use lib.ListN.{length, take, drop}
-use mathlib.Core.Path.{_≡_}
+use mathlib.Core.Path.{_≡_, refl}
 use Prim.Native.Nat.{ℕ, _-_, _≤_}
-use borrow.Author.Needs.{needs}
-use Rattle.records.proofs.Writing.{set-kept, copy-begun, copy-turn, copy-ended}
 use Rattle.records.proofs.write.copy.Statement.{statement}
 use Rattle.records.proofs.write.copy.Tie as tie
 
 abbrev Inv-loop : tie.InvT-loop
-Inv-loop src dst₀ n i₀ dst i = (i ≤ n) × (n ≤ length dst₀) × (length dst ≡ length dst₀) × (dst ≡ take i src ++ drop i dst₀)
+Inv-loop src dst₀ n i₀ dst i = (i ≤ n) × (length dst ≡ length dst₀) × (dst ≡ take i src ++ drop i dst₀)
 
 abbrev μ-loop : tie.MeasureT-loop
 μ-loop src dst₀ n i₀ dst i = n - i
@@ -17,11 +17,8 @@ abbrev μ-loop : tie.MeasureT-loop
 least-requires : tie.Need-least-requires Inv-loop μ-loop
 least-requires c κs = search needs
 
-copy-words-requires : tie.Need-copy-words-requires Inv-loop μ-loop
-copy-words-requires c κs = search needs
-
 loop-holds : tie.Need-loop-holds Inv-loop μ-loop
-loop-holds c = (search needs, search needs, search needs, search copy-begun)
+loop-holds c = (search needs, refl, refl)
 
 shared-slice-read-dst : tie.Need-shared-slice-read-dst Inv-loop μ-loop
 shared-slice-read-dst c = search needs
@@ -36,13 +33,13 @@ loop-less : tie.Need-loop-less Inv-loop μ-loop
 loop-less c = search needs
 
 loop-again : tie.Need-loop-again Inv-loop μ-loop
-loop-again c = (search needs, search needs, search set-kept, search copy-turn)
+loop-again c = (search needs, search set-kept, search copy-turn)
 
 same-length : tie.Need-same-length Inv-loop μ-loop
 same-length c = search needs
 
 returns : tie.Need-returns Inv-loop μ-loop
-returns c = search copy-ended
+returns c = search copy-end
 
 pub copy-spec : {M : Type 1} → statement M
 copy-spec =
@@ -51,7 +48,6 @@ copy-spec =
     Inv-loop
     μ-loop
     least-requires
-    copy-words-requires
     loop-holds
     shared-slice-read-dst
     slice-write-dst
