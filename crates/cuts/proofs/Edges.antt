@@ -15,16 +15,18 @@ use Rattle.model.specs.declared.Refusal.{Refusal}
 use Rattle.model.specs.declared.Refusal.the-variants.{TooLong}
 use Rattle.model.specs.declared.Answer.{Answer}
 use Rattle.model.specs.declared.Answer.the-variants as answers
-use Rattle.model.specs.Key.{IsPrefix, changePrefix}
-use Rattle.model.specs.Record.{edge, noEdge, recordSize, noEdgeMark, lengthField, keyBytes, edgeOf, recordOf, clipped, encodeEdge}
-use Rattle.model.specs.Tables.{shortEdge}
-use Rattle.model.specs.Cuts.{cutEdge}
-use Rattle.model.specs.Calls.{sizeCauses, changePrefixCauses, changePrefixAnswer, changePrefixLeaves}
-use Rattle.model.specs.Refusals.{outcome, first, answer, leaves, over, into}
+use Rattle.model.specs.keys.Key.{IsPrefix, changePrefix}
+use Rattle.model.specs.records.Record.{edge, noEdge, recordSize, noEdgeMark, lengthField, keyBytes, edgeOf, recordOf, encodeEdge}
+use Rattle.model.specs.inner.Written.{clipped}
+use Rattle.model.specs.tables.Tables.{shortEdge}
+use Rattle.model.specs.cuts.Cuts.{cutEdge}
+use Rattle.model.specs.calls.KeyCalls.{sizeCauses, changePrefixCauses, changePrefixAnswer, changePrefixLeaves}
+use Rattle.model.specs.calls.Refusals.{outcome, first, answer, leaves, over}
+use Rattle.model.specs.inner.Written.{into}
 use Rattle.model.proofs.Lists.{into-over, take-over, clipped-all, le-or-lt, length-over}
-use Rattle.model.proofs.Causes.{refused-by, passed, none-here, accepted, value-is, refused}
-use Rattle.model.proofs.ChangePrefix.{only-sizes}
-use Rattle.model.proofs.Record.{length-record}
+use Rattle.model.proofs.calls.Refusals.{refused-by, passed, none-here, accepted, value-is, refused}
+use Rattle.model.proofs.calls.KeyCalls.{only-sizes}
+use Rattle.model.proofs.records.Record.{length-record}
 use Rattle.cuts.specs.Slot.{longCauses}
 
 -- ---- the edge by its mark

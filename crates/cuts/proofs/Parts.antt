@@ -6,8 +6,8 @@ use Prim.Native.Nat.{ℕ, _+_, _*_, _-_, _/_, _≤_}
 use native.Mathlib.Omega.{arith}
 use lib.ListN.{length, take, drop}
 use lib.Seq.{length-take-le}
-use Rattle.model.specs.Sides.{keptPart, beside, edgePlace}
-use Rattle.model.specs.Refusals.{into}
+use Rattle.model.specs.inner.CutSlot.{keptPart, beside, edgePlace}
+use Rattle.model.specs.inner.Written.{into}
 use Rattle.model.proofs.Lists.{rest}
 
 module _ (left : Bool) (n : ℕ) (p : List ℕ) where

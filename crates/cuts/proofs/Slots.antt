@@ -10,18 +10,20 @@ use mir.Val.{Fits}
 use lib.ListN.{length, take, getD}
 use lib.Seq.{length-take-le}
 use Rattle.model.specs.declared.Answer.{Answer}
-use Rattle.model.specs.Key.{Key, IsPrefix}
-use Rattle.model.specs.Order.{key}
-use Rattle.model.specs.Record.{recordAt, keyBytes, element, elements, edges, edgeOf, encodeEdge}
-use Rattle.model.specs.RangePrefix.{lcp, PivotLcp}
-use Rattle.model.specs.Tables.{PivotTable, pivotAt, edgeAt, shortEdge}
-use Rattle.model.specs.Cuts.{cutEdge, edgeWithin}
-use Rattle.model.specs.Sides.{inside, cutoff, cutFrom, cutUpto}
-use Rattle.model.specs.Refusals.{first, answer, leaves}
-use Rattle.model.specs.CutCalls.{edgeSlotCauses}
-use Rattle.model.proofs.Prefix.{prefix-is-take, bytes-of}
-use Rattle.model.proofs.RangePrefix.{prefix-of-left}
-use Rattle.model.proofs.CutBytes.{cut-key, cut-left-key, cut-right-element, cut-old-edge, cut-left-short, cut-edge-short, cut-grows}
+use Rattle.model.specs.keys.Key.{Key, IsPrefix}
+use Rattle.model.specs.keys.Order.{key}
+use Rattle.model.specs.records.Record.{keyBytes, element, elements, edges, edgeOf, encodeEdge}
+use Rattle.model.specs.inner.Places.{recordAt}
+use Rattle.model.specs.ranges.RangePrefix.{lcp, PivotLcp}
+use Rattle.model.specs.tables.Tables.{PivotTable, pivotAt, edgeAt, shortEdge}
+use Rattle.model.specs.cuts.Cuts.{cutEdge, edgeWithin}
+use Rattle.model.specs.cuts.Sides.{inside, cutoff}
+use Rattle.model.specs.inner.CutSlot.{cutFrom, cutUpto}
+use Rattle.model.specs.calls.Refusals.{first, answer, leaves}
+use Rattle.model.specs.calls.TableCalls.{edgeSlotCauses}
+use Rattle.model.proofs.keys.Key.{prefix-is-take, bytes-of}
+use Rattle.model.proofs.ranges.RangePrefix.{prefix-of-left}
+use Rattle.model.proofs.calls.CutCalls.{cut-key, cut-left-key, cut-right-element, cut-old-edge, cut-left-short, cut-edge-short, cut-grows}
 use Rattle.cuts.specs.Slot.{edgeCut, longCauses}
 
 -- the part of a key as long as the range's prefix is the prefix

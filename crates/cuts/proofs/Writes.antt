@@ -14,17 +14,21 @@ use Rattle.model.specs.declared.Refusal.{Refusal}
 use Rattle.model.specs.declared.Refusal.the-variants.{TooLong, NoRoom}
 use Rattle.model.specs.declared.Answer.{Answer}
 use Rattle.model.specs.declared.Answer.the-variants as answers
-use Rattle.model.specs.Record.{recordSize, elements, recordOf, clipped, encodeEdge, encodeAll, encodeEdges}
-use Rattle.model.specs.Tables.{all, shortEdge}
-use Rattle.model.specs.Sides.{inside, cutoff, keptPart, beside, edgePlace}
-use Rattle.model.specs.Refusals.{outcome, first, answer, leaves, over, into}
-use Rattle.model.specs.Calls.{noRoom}
-use Rattle.model.specs.CutCalls.{edgeSlotCauses, cutPivots, cutEdges, writeCauses}
-use Rattle.model.proofs.Causes.{here, later, refused-first, refused, accepted, passed, none-here, or-left, or-right}
+use Rattle.model.specs.records.Record.{recordSize, elements, recordOf, encodeEdge, encodeAll, encodeEdges}
+use Rattle.model.specs.inner.Written.{clipped}
+use Rattle.model.specs.tables.Tables.{all, shortEdge}
+use Rattle.model.specs.cuts.Sides.{inside, cutoff}
+use Rattle.model.specs.inner.CutSlot.{keptPart, beside, edgePlace}
+use Rattle.model.specs.calls.Refusals.{outcome, first, answer, leaves, over}
+use Rattle.model.specs.inner.Written.{into}
+use Rattle.model.specs.calls.KeyCalls.{noRoom}
+use Rattle.model.specs.calls.CutCalls.{cutPivots, cutEdges, writeCauses}
+use Rattle.model.specs.calls.TableCalls.{edgeSlotCauses}
+use Rattle.model.proofs.calls.Refusals.{here, later, refused-first, refused, accepted, passed, none-here, or-left, or-right}
 use Rattle.model.proofs.Lists.{into-over, clipped-all}
-use Rattle.model.proofs.Record.{length-record, length-encodeEdge}
-use Rattle.model.proofs.Prefix.{bytes-of}
-use Rattle.model.proofs.CutBytes.{cut-slot-small, cut-key, cut-slot, cut-edges-less, cut-short, cut-pivots-size, cut-edges-size, cut-count, cut-pivots-bytes, cut-edges-bytes}
+use Rattle.model.proofs.records.Record.{length-record, length-encodeEdge}
+use Rattle.model.proofs.keys.Key.{bytes-of}
+use Rattle.model.proofs.calls.CutCalls.{cut-slot-small, cut-key, cut-slot, cut-edges-less, cut-short, cut-pivots-size, cut-edges-size, cut-count, cut-pivots-bytes, cut-edges-bytes}
 use Rattle.cuts.specs.Slot.{edgeCut, longCauses, roomCauses}
 
 -- what is new beside what is kept

@@ -6,13 +6,15 @@ use mathlib.Core.Option.{none}
 use Prim.Native.Nat.{ℕ, _*_}
 use lib.ListN.{length}
 use Rattle.model.specs.declared.Refusal.the-variants.{TooLong, NoRoom}
-use Rattle.model.specs.Key.{Key}
-use Rattle.model.specs.Record.{Edge, recordSize, elements, edges}
-use Rattle.model.specs.Tables.{shortEdge}
-use Rattle.model.specs.Sides.{inside, cutoff, cutSlotEdge}
-use Rattle.model.specs.Refusals.{Cause, _⇒_, first}
-use Rattle.model.specs.Calls.{noRoom}
-use Rattle.model.specs.CutCalls.{edgeSlotCauses, cutPivots, cutEdges}
+use Rattle.model.specs.keys.Key.{Key}
+use Rattle.model.specs.records.Record.{Edge, recordSize, elements, edges}
+use Rattle.model.specs.tables.Tables.{shortEdge}
+use Rattle.model.specs.cuts.Sides.{inside, cutoff}
+use Rattle.model.specs.inner.CutSlot.{cutSlotEdge}
+use Rattle.model.specs.calls.Refusals.{Cause, _⇒_, first}
+use Rattle.model.specs.calls.KeyCalls.{noRoom}
+use Rattle.model.specs.calls.CutCalls.{cutPivots, cutEdges}
+use Rattle.model.specs.calls.TableCalls.{edgeSlotCauses}
 
 -- none of the causes 1 to 5 applies, and c is the slot
 abbrev pub Found : Bool → List ℕ → List ℕ → Key → ℕ → Type 0

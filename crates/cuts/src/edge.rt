@@ -4,11 +4,11 @@ ghost use mathlib.Core.Path.{_≡_};
 ghost use mathlib.Core.Bool.{true};
 ghost use Prim.Native.Nat.{_≤_};
 ghost use lib.ListN.{length};
-ghost use Rattle.model.specs.Key.{IsPrefix};
-ghost use Rattle.model.specs.Record.{recordSize, edgeOf, encodeEdge};
-ghost use Rattle.model.specs.Tables.{shortEdge};
-ghost use Rattle.model.specs.Cuts.{cutEdge};
-ghost use Rattle.model.specs.Refusals.{answer, leaves};
+ghost use Rattle.model.specs.keys.Key.{IsPrefix};
+ghost use Rattle.model.specs.records.Record.{recordSize, edgeOf, encodeEdge};
+ghost use Rattle.model.specs.tables.Tables.{shortEdge};
+ghost use Rattle.model.specs.cuts.Cuts.{cutEdge};
+ghost use Rattle.model.specs.calls.Refusals.{answer, leaves};
 ghost use Rattle.cuts.specs.Slot.{Found, edgeCut, longCauses};
 
 // The edge where its range's prefix grows from old to new, as a record at the head of made: the old edge followed

@@ -8,11 +8,12 @@ ghost use mathlib.Core.Path.{_≡_};
 ghost use mathlib.Core.Bool.{true, false};
 ghost use Prim.Native.Nat.{_/_, _≤_, _<_};
 ghost use lib.ListN.{length};
-ghost use Rattle.model.specs.Record.{recordSize, encodeEdge, encodeAll, encodeEdges};
-ghost use Rattle.model.specs.Tables.{shortEdge};
-ghost use Rattle.model.specs.Sides.{keptPart, beside, edgePlace};
-ghost use Rattle.model.specs.Refusals.{answer, leaves, into};
-ghost use Rattle.model.specs.CutCalls.{cutPivots, cutEdges, writeCauses, cutAnswer, cutLeavesPivots, cutLeavesEdges};
+ghost use Rattle.model.specs.records.Record.{recordSize, encodeEdge, encodeAll, encodeEdges};
+ghost use Rattle.model.specs.tables.Tables.{shortEdge};
+ghost use Rattle.model.specs.inner.CutSlot.{keptPart, beside, edgePlace};
+ghost use Rattle.model.specs.calls.Refusals.{answer, leaves};
+ghost use Rattle.model.specs.inner.Written.{into};
+ghost use Rattle.model.specs.calls.CutCalls.{cutPivots, cutEdges, writeCauses, cutAnswer, cutLeavesPivots, cutLeavesEdges};
 ghost use Rattle.cuts.specs.Slot.{Found, edgeCut, roomCauses};
 
 // The first n records, or those from place n on.
@@ -57,29 +58,29 @@ fn write_at(
     c: usize,
     left: bool,
     made: &[u8],
-    dp: &mut [u8],
-    de: &mut [u8],
+    dest_pivots: &mut [u8],
+    dest_edges: &mut [u8],
 ) -> Answer
     requires { ⌜ (Found left (now pivots) (now edges) (now k) c) × (shortEdge (edgeCut left (now pivots) (now edges) (now k)) ≡ true) × (now made ≡ encodeEdge (edgeCut left (now pivots) (now edges) (now k))) ⌝ }
-    ensures answered { λ r. ⌜ r ≡ answer (roomCauses left (now (pivots .entry)) (now (edges .entry)) (now (k .entry)) (now (dp .entry)) (now (de .entry))) (length (cutPivots left (now (pivots .entry)) (now (k .entry)))) ⌝ }
-    ensures pivots { λ r. ⌜ now (dp .exit) ≡ leaves (roomCauses left (now (pivots .entry)) (now (edges .entry)) (now (k .entry)) (now (dp .entry)) (now (de .entry))) (encodeAll (cutPivots left (now (pivots .entry)) (now (k .entry)))) (now (dp .entry)) ⌝ }
-    ensures edges { λ r. ⌜ now (de .exit) ≡ leaves (roomCauses left (now (pivots .entry)) (now (edges .entry)) (now (k .entry)) (now (dp .entry)) (now (de .entry))) (encodeEdges (cutEdges left (now (pivots .entry)) (now (edges .entry)) (now (k .entry)))) (now (de .entry)) ⌝ }
+    ensures answered { λ r. ⌜ r ≡ answer (roomCauses left (now (pivots .entry)) (now (edges .entry)) (now (k .entry)) (now («dest_pivots» .entry)) (now («dest_edges» .entry))) (length (cutPivots left (now (pivots .entry)) (now (k .entry)))) ⌝ }
+    ensures pivots { λ r. ⌜ now («dest_pivots» .exit) ≡ leaves (roomCauses left (now (pivots .entry)) (now (edges .entry)) (now (k .entry)) (now («dest_pivots» .entry)) (now («dest_edges» .entry))) (encodeAll (cutPivots left (now (pivots .entry)) (now (k .entry)))) (now («dest_pivots» .entry)) ⌝ }
+    ensures edges { λ r. ⌜ now («dest_edges» .exit) ≡ leaves (roomCauses left (now (pivots .entry)) (now (edges .entry)) (now (k .entry)) (now («dest_pivots» .entry)) (now («dest_edges» .entry))) (encodeEdges (cutEdges left (now (pivots .entry)) (now (edges .entry)) (now (k .entry)))) (now («dest_edges» .entry)) ⌝ }
 {
     let kept_pivots = kept(pivots, c + 1, left);
     let kept_edges = kept(edges, edge_place(c, left), left);
-    if dp.len() < kept_pivots.len() + RECORD_SIZE {
+    if dest_pivots.len() < kept_pivots.len() + RECORD_SIZE {
         return Answer::Refused(Refusal::NoRoom);
     }
-    if de.len() < kept_edges.len() + RECORD_SIZE {
+    if dest_edges.len() < kept_edges.len() + RECORD_SIZE {
         return Answer::Refused(Refusal::NoRoom);
     }
     put(
         kept_pivots,
         &records::record_of(k.len() as u16, k),
         left,
-        dp,
+        dest_pivots,
     );
-    put(kept_edges, made, left, de);
+    put(kept_edges, made, left, dest_edges);
     Answer::Value(kept_pivots.len() / RECORD_SIZE + 1)
 }
 
@@ -90,51 +91,70 @@ fn cut_at(
     k: &[u8],
     c: usize,
     left: bool,
-    dp: &mut [u8],
-    de: &mut [u8],
+    dest_pivots: &mut [u8],
+    dest_edges: &mut [u8],
 ) -> Answer
     requires { ⌜ Found left (now pivots) (now edges) (now k) c ⌝ }
-    ensures answered { λ r. ⌜ r ≡ answer (writeCauses (cutPivots left (now (pivots .entry)) (now (k .entry))) (cutEdges left (now (pivots .entry)) (now (edges .entry)) (now (k .entry))) (now (dp .entry)) (now (de .entry))) (length (cutPivots left (now (pivots .entry)) (now (k .entry)))) ⌝ }
-    ensures pivots { λ r. ⌜ now (dp .exit) ≡ leaves (writeCauses (cutPivots left (now (pivots .entry)) (now (k .entry))) (cutEdges left (now (pivots .entry)) (now (edges .entry)) (now (k .entry))) (now (dp .entry)) (now (de .entry))) (encodeAll (cutPivots left (now (pivots .entry)) (now (k .entry)))) (now (dp .entry)) ⌝ }
-    ensures edges { λ r. ⌜ now (de .exit) ≡ leaves (writeCauses (cutPivots left (now (pivots .entry)) (now (k .entry))) (cutEdges left (now (pivots .entry)) (now (edges .entry)) (now (k .entry))) (now (dp .entry)) (now (de .entry))) (encodeEdges (cutEdges left (now (pivots .entry)) (now (edges .entry)) (now (k .entry)))) (now (de .entry)) ⌝ }
+    ensures answered { λ r. ⌜ r ≡ answer (writeCauses (cutPivots left (now (pivots .entry)) (now (k .entry))) (cutEdges left (now (pivots .entry)) (now (edges .entry)) (now (k .entry))) (now («dest_pivots» .entry)) (now («dest_edges» .entry))) (length (cutPivots left (now (pivots .entry)) (now (k .entry)))) ⌝ }
+    ensures pivots { λ r. ⌜ now («dest_pivots» .exit) ≡ leaves (writeCauses (cutPivots left (now (pivots .entry)) (now (k .entry))) (cutEdges left (now (pivots .entry)) (now (edges .entry)) (now (k .entry))) (now («dest_pivots» .entry)) (now («dest_edges» .entry))) (encodeAll (cutPivots left (now (pivots .entry)) (now (k .entry)))) (now («dest_pivots» .entry)) ⌝ }
+    ensures edges { λ r. ⌜ now («dest_edges» .exit) ≡ leaves (writeCauses (cutPivots left (now (pivots .entry)) (now (k .entry))) (cutEdges left (now (pivots .entry)) (now (edges .entry)) (now (k .entry))) (now («dest_pivots» .entry)) (now («dest_edges» .entry))) (encodeEdges (cutEdges left (now (pivots .entry)) (now (edges .entry)) (now (k .entry)))) (now («dest_edges» .entry)) ⌝ }
 {
     let mut made = [0u8; 66];
     let cut = slot_edge(pivots, edges, k, c, left, &mut made);
     let Answer::Value(_) = cut else {
         return cut;
     };
-    write_at(pivots, edges, k, c, left, &made, dp, de)
+    write_at(pivots, edges, k, c, left, &made, dest_pivots, dest_edges)
 }
 
 // A cut at the key, on the left or on the right.
-fn cut(pivots: &[u8], edges: &[u8], k: &[u8], left: bool, dp: &mut [u8], de: &mut [u8]) -> Answer
-    ensures answered { λ r. ⌜ r ≡ cutAnswer left (now (pivots .entry)) (now (edges .entry)) (now (k .entry)) (now (dp .entry)) (now (de .entry)) ⌝ }
-    ensures pivots { λ r. ⌜ now (dp .exit) ≡ cutLeavesPivots left (now (pivots .entry)) (now (edges .entry)) (now (k .entry)) (now (dp .entry)) (now (de .entry)) ⌝ }
-    ensures edges { λ r. ⌜ now (de .exit) ≡ cutLeavesEdges left (now (pivots .entry)) (now (edges .entry)) (now (k .entry)) (now (dp .entry)) (now (de .entry)) ⌝ }
+fn cut(
+    pivots: &[u8],
+    edges: &[u8],
+    k: &[u8],
+    left: bool,
+    dest_pivots: &mut [u8],
+    dest_edges: &mut [u8],
+) -> Answer
+    ensures answered { λ r. ⌜ r ≡ cutAnswer left (now (pivots .entry)) (now (edges .entry)) (now (k .entry)) (now («dest_pivots» .entry)) (now («dest_edges» .entry)) ⌝ }
+    ensures pivots { λ r. ⌜ now («dest_pivots» .exit) ≡ cutLeavesPivots left (now (pivots .entry)) (now (edges .entry)) (now (k .entry)) (now («dest_pivots» .entry)) (now («dest_edges» .entry)) ⌝ }
+    ensures edges { λ r. ⌜ now («dest_edges» .exit) ≡ cutLeavesEdges left (now (pivots .entry)) (now (edges .entry)) (now (k .entry)) (now («dest_pivots» .entry)) (now («dest_edges» .entry)) ⌝ }
 {
     let routed = routing::slot_with_edges(pivots, edges, k, left);
     let Routed::Slot(c) = routed else {
         return routing::slot_answer(routed);
     };
-    cut_at(pivots, edges, k, c, left, dp, de)
+    cut_at(pivots, edges, k, c, left, dest_pivots, dest_edges)
 }
 
 // SplitLeft with SplitLeftEdges: the pivots below the key and the key, and their edges, at the heads of the two
 // destinations. Answers the number of pivots. Refuses 1, 2, 3, 4, 5, 8 and 10.
-pub fn split_left(pivots: &[u8], edges: &[u8], key: &[u8], dp: &mut [u8], de: &mut [u8]) -> Answer
-    ensures answered { λ r. ⌜ r ≡ cutAnswer true (now (pivots .entry)) (now (edges .entry)) (now (key .entry)) (now (dp .entry)) (now (de .entry)) ⌝ }
-    ensures pivots { λ r. ⌜ now (dp .exit) ≡ cutLeavesPivots true (now (pivots .entry)) (now (edges .entry)) (now (key .entry)) (now (dp .entry)) (now (de .entry)) ⌝ }
-    ensures edges { λ r. ⌜ now (de .exit) ≡ cutLeavesEdges true (now (pivots .entry)) (now (edges .entry)) (now (key .entry)) (now (dp .entry)) (now (de .entry)) ⌝ }
+pub fn split_left(
+    pivots: &[u8],
+    edges: &[u8],
+    key: &[u8],
+    dest_pivots: &mut [u8],
+    dest_edges: &mut [u8],
+) -> Answer
+    ensures answered { λ r. ⌜ r ≡ cutAnswer true (now (pivots .entry)) (now (edges .entry)) (now (key .entry)) (now («dest_pivots» .entry)) (now («dest_edges» .entry)) ⌝ }
+    ensures pivots { λ r. ⌜ now («dest_pivots» .exit) ≡ cutLeavesPivots true (now (pivots .entry)) (now (edges .entry)) (now (key .entry)) (now («dest_pivots» .entry)) (now («dest_edges» .entry)) ⌝ }
+    ensures edges { λ r. ⌜ now («dest_edges» .exit) ≡ cutLeavesEdges true (now (pivots .entry)) (now (edges .entry)) (now (key .entry)) (now («dest_pivots» .entry)) (now («dest_edges» .entry)) ⌝ }
 {
-    cut(pivots, edges, key, true, dp, de)
+    cut(pivots, edges, key, true, dest_pivots, dest_edges)
 }
 
 // SplitRight with SplitRightEdges: the key and the pivots above it, and their edges, at the heads of the two
 // destinations. Answers the number of pivots. Refuses 1, 2, 3, 4, 5, 8 and 10.
-pub fn split_right(pivots: &[u8], edges: &[u8], key: &[u8], dp: &mut [u8], de: &mut [u8]) -> Answer
-    ensures answered { λ r. ⌜ r ≡ cutAnswer false (now (pivots .entry)) (now (edges .entry)) (now (key .entry)) (now (dp .entry)) (now (de .entry)) ⌝ }
-    ensures pivots { λ r. ⌜ now (dp .exit) ≡ cutLeavesPivots false (now (pivots .entry)) (now (edges .entry)) (now (key .entry)) (now (dp .entry)) (now (de .entry)) ⌝ }
-    ensures edges { λ r. ⌜ now (de .exit) ≡ cutLeavesEdges false (now (pivots .entry)) (now (edges .entry)) (now (key .entry)) (now (dp .entry)) (now (de .entry)) ⌝ }
+pub fn split_right(
+    pivots: &[u8],
+    edges: &[u8],
+    key: &[u8],
+    dest_pivots: &mut [u8],
+    dest_edges: &mut [u8],
+) -> Answer
+    ensures answered { λ r. ⌜ r ≡ cutAnswer false (now (pivots .entry)) (now (edges .entry)) (now (key .entry)) (now («dest_pivots» .entry)) (now («dest_edges» .entry)) ⌝ }
+    ensures pivots { λ r. ⌜ now («dest_pivots» .exit) ≡ cutLeavesPivots false (now (pivots .entry)) (now (edges .entry)) (now (key .entry)) (now («dest_pivots» .entry)) (now («dest_edges» .entry)) ⌝ }
+    ensures edges { λ r. ⌜ now («dest_edges» .exit) ≡ cutLeavesEdges false (now (pivots .entry)) (now (edges .entry)) (now (key .entry)) (now («dest_pivots» .entry)) (now («dest_edges» .entry)) ⌝ }
 {
-    cut(pivots, edges, key, false, dp, de)
+    cut(pivots, edges, key, false, dest_pivots, dest_edges)
 }

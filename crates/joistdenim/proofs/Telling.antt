@@ -13,7 +13,7 @@ use Rattle.model.specs.declared.Compared.the-variants as compared
 use Rattle.model.specs.declared.Decided.{Decided}
 use Rattle.model.specs.declared.Decided.the-variants as decided
 use Rattle.model.specs.declared.Routed.{Routed}
-use Rattle.model.specs.Refusals.{number, answerNumber, comparedNumber, told, toldOrder, decidedAnswer, slotAnswer}
+use Rattle.model.specs.calls.Refusals.{number, answerNumber, comparedNumber, told, toldOrder, decidedAnswer, slotAnswer}
 
 module _ (a : Answer) where
   pub value-number : (n : ℕ) → a ≡ answers.Value n → 0 ≡ answerNumber a

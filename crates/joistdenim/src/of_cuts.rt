@@ -2,24 +2,28 @@
 use crate::tell::tell;
 ghost use mathlib.Core.Path.{_≡_};
 ghost use mathlib.Core.Bool.{true, false};
-ghost use Rattle.model.specs.Refusals.{answerNumber, told};
-ghost use Rattle.model.specs.CutCalls.{cutAnswer, cutLeavesPivots, cutLeavesEdges, translateKeyAnswer, translateKeyLeaves};
+ghost use Rattle.model.specs.calls.Refusals.{answerNumber, told};
+ghost use Rattle.model.specs.calls.CutCalls.{cutAnswer, cutLeavesPivots, cutLeavesEdges};
+ghost use Rattle.model.specs.calls.TranslationCalls.{translateKeyAnswer, translateKeyLeaves};
 
 #[no_mangle]
 pub extern "C" fn jd_split_left(
     pivots: &[u8],
     edges: &[u8],
     key: &[u8],
-    dp: &mut [u8],
-    de: &mut [u8],
+    dest_pivots: &mut [u8],
+    dest_edges: &mut [u8],
     value: &mut u64,
 ) -> u32
-    ensures number { λ r. ⌜ r ≡ answerNumber (cutAnswer true (now (pivots .entry)) (now (edges .entry)) (now (key .entry)) (now (dp .entry)) (now (de .entry))) ⌝ }
-    ensures value { λ r. ⌜ now (value .exit) ≡ told (cutAnswer true (now (pivots .entry)) (now (edges .entry)) (now (key .entry)) (now (dp .entry)) (now (de .entry))) (now (value .entry)) ⌝ }
-    ensures pivots { λ r. ⌜ now (dp .exit) ≡ cutLeavesPivots true (now (pivots .entry)) (now (edges .entry)) (now (key .entry)) (now (dp .entry)) (now (de .entry)) ⌝ }
-    ensures edges { λ r. ⌜ now (de .exit) ≡ cutLeavesEdges true (now (pivots .entry)) (now (edges .entry)) (now (key .entry)) (now (dp .entry)) (now (de .entry)) ⌝ }
+    ensures number { λ r. ⌜ r ≡ answerNumber (cutAnswer true (now (pivots .entry)) (now (edges .entry)) (now (key .entry)) (now («dest_pivots» .entry)) (now («dest_edges» .entry))) ⌝ }
+    ensures value { λ r. ⌜ now (value .exit) ≡ told (cutAnswer true (now (pivots .entry)) (now (edges .entry)) (now (key .entry)) (now («dest_pivots» .entry)) (now («dest_edges» .entry))) (now (value .entry)) ⌝ }
+    ensures pivots { λ r. ⌜ now («dest_pivots» .exit) ≡ cutLeavesPivots true (now (pivots .entry)) (now (edges .entry)) (now (key .entry)) (now («dest_pivots» .entry)) (now («dest_edges» .entry)) ⌝ }
+    ensures edges { λ r. ⌜ now («dest_edges» .exit) ≡ cutLeavesEdges true (now (pivots .entry)) (now (edges .entry)) (now (key .entry)) (now («dest_pivots» .entry)) (now («dest_edges» .entry)) ⌝ }
 {
-    tell(cuts::split_left(pivots, edges, key, dp, de), value)
+    tell(
+        cuts::split_left(pivots, edges, key, dest_pivots, dest_edges),
+        value,
+    )
 }
 
 #[no_mangle]
@@ -27,16 +31,19 @@ pub extern "C" fn jd_split_right(
     pivots: &[u8],
     edges: &[u8],
     key: &[u8],
-    dp: &mut [u8],
-    de: &mut [u8],
+    dest_pivots: &mut [u8],
+    dest_edges: &mut [u8],
     value: &mut u64,
 ) -> u32
-    ensures number { λ r. ⌜ r ≡ answerNumber (cutAnswer false (now (pivots .entry)) (now (edges .entry)) (now (key .entry)) (now (dp .entry)) (now (de .entry))) ⌝ }
-    ensures value { λ r. ⌜ now (value .exit) ≡ told (cutAnswer false (now (pivots .entry)) (now (edges .entry)) (now (key .entry)) (now (dp .entry)) (now (de .entry))) (now (value .entry)) ⌝ }
-    ensures pivots { λ r. ⌜ now (dp .exit) ≡ cutLeavesPivots false (now (pivots .entry)) (now (edges .entry)) (now (key .entry)) (now (dp .entry)) (now (de .entry)) ⌝ }
-    ensures edges { λ r. ⌜ now (de .exit) ≡ cutLeavesEdges false (now (pivots .entry)) (now (edges .entry)) (now (key .entry)) (now (dp .entry)) (now (de .entry)) ⌝ }
+    ensures number { λ r. ⌜ r ≡ answerNumber (cutAnswer false (now (pivots .entry)) (now (edges .entry)) (now (key .entry)) (now («dest_pivots» .entry)) (now («dest_edges» .entry))) ⌝ }
+    ensures value { λ r. ⌜ now (value .exit) ≡ told (cutAnswer false (now (pivots .entry)) (now (edges .entry)) (now (key .entry)) (now («dest_pivots» .entry)) (now («dest_edges» .entry))) (now (value .entry)) ⌝ }
+    ensures pivots { λ r. ⌜ now («dest_pivots» .exit) ≡ cutLeavesPivots false (now (pivots .entry)) (now (edges .entry)) (now (key .entry)) (now («dest_pivots» .entry)) (now («dest_edges» .entry)) ⌝ }
+    ensures edges { λ r. ⌜ now («dest_edges» .exit) ≡ cutLeavesEdges false (now (pivots .entry)) (now (edges .entry)) (now (key .entry)) (now («dest_pivots» .entry)) (now («dest_edges» .entry)) ⌝ }
 {
-    tell(cuts::split_right(pivots, edges, key, dp, de), value)
+    tell(
+        cuts::split_right(pivots, edges, key, dest_pivots, dest_edges),
+        value,
+    )
 }
 
 #[no_mangle]

@@ -2,8 +2,8 @@
 use crate::tell::tell;
 use crate::tell::tell_order;
 ghost use mathlib.Core.Path.{_≡_};
-ghost use Rattle.model.specs.Refusals.{answerNumber, comparedNumber, told, toldOrder};
-ghost use Rattle.model.specs.Calls.{compareAnswer, pivotKeyAnswer, entryKeyAnswer, changePrefixAnswer, changePrefixLeaves, pivotLcpAnswer, uncommonPrefixAnswer, uncommonPrefixLeaves};
+ghost use Rattle.model.specs.calls.Refusals.{answerNumber, comparedNumber, told, toldOrder};
+ghost use Rattle.model.specs.calls.KeyCalls.{compareAnswer, pivotKeyAnswer, entryKeyAnswer, changePrefixAnswer, changePrefixLeaves, pivotLcpAnswer, uncommonPrefixAnswer, uncommonPrefixLeaves};
 
 #[no_mangle]
 pub extern "C" fn jd_compare(a: &[u8], b: &[u8], order: &mut i64) -> u32

@@ -1,8 +1,8 @@
 // The list of a table.
 use crate::tell::tell;
 ghost use mathlib.Core.Path.{_≡_};
-ghost use Rattle.model.specs.Refusals.{answerNumber, told};
-ghost use Rattle.model.specs.ShelfList.{listTableAnswer, listTableLeaves};
+ghost use Rattle.model.specs.calls.Refusals.{answerNumber, told};
+ghost use Rattle.model.specs.list.ShelfList.{listTableAnswer, listTableLeaves};
 
 #[no_mangle]
 pub extern "C" fn jd_list_table(input: &[u8], dest: &mut [u8], value: &mut u64) -> u32

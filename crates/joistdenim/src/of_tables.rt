@@ -3,8 +3,8 @@ use crate::tell::decided_answer;
 use crate::tell::tell;
 use crate::tell::tell_number;
 ghost use mathlib.Core.Path.{_≡_};
-ghost use Rattle.model.specs.Refusals.{answerNumber, told, decidedAnswer, slotAnswer};
-ghost use Rattle.model.specs.TableCalls.{wfPivotsAnswer, wfEdgesAnswer, containsAllKeysAnswer, containsRangeAnswer, boundedKeyAnswer, validLeftCutOffKeyAnswer, pivotInsertableAnswer, getKeyAnswer, initPivotTableAnswer, initPivotTableLeaves, routeAnswer, cutoffForLeftAnswer, cutoffForRightAnswer};
+ghost use Rattle.model.specs.calls.Refusals.{answerNumber, told, decidedAnswer, slotAnswer};
+ghost use Rattle.model.specs.calls.TableCalls.{wfPivotsAnswer, wfEdgesAnswer, containsAllKeysAnswer, containsRangeAnswer, boundedKeyAnswer, validLeftCutOffKeyAnswer, pivotInsertableAnswer, getKeyAnswer, initPivotTableAnswer, initPivotTableLeaves, routeAnswer, cutoffForLeftAnswer, cutoffForRightAnswer};
 
 #[no_mangle]
 pub extern "C" fn jd_wf_pivots(pivots: &[u8]) -> u32

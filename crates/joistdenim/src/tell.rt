@@ -3,7 +3,7 @@ use model::Answer;
 use model::Compared;
 use model::Decided;
 ghost use mathlib.Core.Path.{_≡_};
-ghost use Rattle.model.specs.Refusals.{answerNumber, comparedNumber, told, toldOrder, decidedAnswer};
+ghost use Rattle.model.specs.calls.Refusals.{answerNumber, comparedNumber, told, toldOrder, decidedAnswer};
 
 // An answer, told by a number and through a pointer.
 pub fn tell(a: Answer, value: &mut u64) -> u32

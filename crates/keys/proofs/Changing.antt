@@ -7,11 +7,12 @@ use native.Mathlib.Omega.{arith}
 use borrow.Author.Tests.{lt-ltb, le-ltb, not-false}
 use lib.Dec.{ltb}
 use lib.ListN.{length, take, drop, length-append, length-drop}
-use Rattle.model.specs.Key.{IsPrefix, changePrefix, tooLong}
-use Rattle.model.specs.Refusals.{over, into}
-use Rattle.model.specs.Calls.{noRoom}
+use Rattle.model.specs.keys.Key.{IsPrefix, changePrefix, tooLong}
+use Rattle.model.specs.calls.Refusals.{over}
+use Rattle.model.specs.inner.Written.{into}
+use Rattle.model.specs.calls.KeyCalls.{noRoom}
 use Rattle.model.proofs.Lists.{rest, into-over}
-use Rattle.model.proofs.Prefix.{length-change, prefix-length}
+use Rattle.model.proofs.keys.Key.{length-change, prefix-length}
 
 -- a prefix that was found ends inside the key
 pub prefix-inside : (p k : List ℕ) (t : Bool) → t ≡ IsPrefix p k → not t ≡ false → length p ≤ length k

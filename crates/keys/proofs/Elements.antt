@@ -9,9 +9,9 @@ use mir.Syntax.{w64}
 use mir.Val.{SFits, toZ, ofZ}
 use mir.Facts.{toZ-ofZ}
 use lib.Signed.{ltZ, leZ}
-use Rattle.model.specs.Order.{Element, key, max, lte, lt, cmp, passes}
-use Rattle.model.specs.Record.{lengthField, keyBytes, element, maxMark}
-use Rattle.model.proofs.Order.{lt-lte}
+use Rattle.model.specs.keys.Order.{Element, key, max, lte, lt, cmp, passes}
+use Rattle.model.specs.records.Record.{lengthField, keyBytes, element, maxMark}
+use Rattle.model.proofs.keys.Order.{lt-lte}
 
 -- -1, 0 and 1 fit a signed number
 cmp-fits : (a b : Element) → SFits w64 (cmp a b)

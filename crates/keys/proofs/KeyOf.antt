@@ -13,16 +13,16 @@ use lib.ListN.{length, take, drop, length-take, length-drop}
 use lib.Seq.{length-take-le}
 use Rattle.model.specs.declared.Reading.{Reading}
 use Rattle.model.specs.declared.Reading.the-variants.{Key, Malformed, NoEdge, Max}
-use Rattle.model.specs.Record.{recordSize, reading, keyReading, keyBytes}
+use Rattle.model.specs.records.Record.{recordSize, reading, keyReading, keyBytes}
 use Rattle.model.specs.declared.Refusal.{Refusal}
 use Rattle.model.specs.declared.Answer.{Answer}
 use Rattle.model.specs.declared.Answer.the-variants.{Value}
-use Rattle.model.specs.Bucket.{entrySize}
-use Rattle.model.specs.Refusals.{outcome, answer, part}
-use Rattle.model.specs.Calls.{notRecord, pivotKeyCauses, pivotKeyAnswer, pivotKeyPart, entryKeyCauses, entryKeyAnswer, entryKeyPart}
-use Rattle.model.proofs.Causes.{passed, accepted, value-is, none-here}
+use Rattle.model.specs.buckets.Bucket.{entrySize}
+use Rattle.model.specs.calls.Refusals.{outcome, answer, part}
+use Rattle.model.specs.calls.KeyCalls.{notRecord, pivotKeyCauses, pivotKeyAnswer, pivotKeyPart, entryKeyCauses, entryKeyAnswer, entryKeyPart}
+use Rattle.model.proofs.calls.Refusals.{passed, accepted, value-is, none-here}
 use Rattle.model.proofs.Lists.{take-min}
-use Rattle.model.proofs.Record.{key-read}
+use Rattle.model.proofs.records.Record.{key-read}
 
 module _ (r : List ℕ) (w : Reading) (e : w ≡ reading r) where
   pub key-holds : (n : ℕ) → w ≡ Key n → keyReading (reading r) ≡ true

@@ -5,7 +5,7 @@ use model::Refusal;
 ghost use mathlib.Core.Path.{_≡_};
 ghost use Prim.Native.Nat.{_+_, _-_, _≤_};
 ghost use lib.ListN.{length};
-ghost use Rattle.model.specs.Calls.{changePrefixAnswer, changePrefixLeaves};
+ghost use Rattle.model.specs.calls.KeyCalls.{changePrefixAnswer, changePrefixLeaves};
 
 // The length of a key whose prefix is changed.
 fn changed_len(key: &[u8], old: &[u8], new: &[u8]) -> usize

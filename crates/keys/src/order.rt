@@ -3,9 +3,9 @@ use model::Compared;
 use model::RECORD_SIZE;
 use model::Refusal;
 ghost use mathlib.Core.Path.{_≡_};
-ghost use Rattle.model.specs.Order.{key, lt, cmp, passes};
-ghost use Rattle.model.specs.Record.{element};
-ghost use Rattle.model.specs.Calls.{compareAnswer};
+ghost use Rattle.model.specs.keys.Order.{key, lt, cmp, passes};
+ghost use Rattle.model.specs.records.Record.{element};
+ghost use Rattle.model.specs.calls.KeyCalls.{compareAnswer};
 
 // The order of two keys: -1, 0 or 1.
 pub fn compare_keys(a: &[u8], b: &[u8]) -> i64

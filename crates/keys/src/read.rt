@@ -5,7 +5,7 @@ use model::RECORD_SIZE;
 use model::Reading;
 use model::Refusal;
 ghost use mathlib.Core.Path.{_≡_};
-ghost use Rattle.model.specs.Calls.{pivotKeyAnswer, pivotKeyPart, entryKeyAnswer, entryKeyPart};
+ghost use Rattle.model.specs.calls.KeyCalls.{pivotKeyAnswer, pivotKeyPart, entryKeyAnswer, entryKeyPart};
 
 // The length of a pivot record's key. Refuses 1 and 2; max and "no edge" are 2.
 pub fn pivot_key(rec: &[u8]) -> Answer

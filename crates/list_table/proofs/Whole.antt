@@ -7,9 +7,9 @@ use lib.ListN.{length, take, drop, length-append}
 use Rattle.model.specs.declared.Refusal.{Refusal}
 use Rattle.model.specs.declared.Answer.{Answer}
 use Rattle.model.specs.declared.Answer.the-variants as answers
-use Rattle.model.specs.Refusals.{over}
-use Rattle.model.specs.ShelfList.{shelfList, listTableCauses, listTableAnswer, listTableLeaves}
-use Rattle.model.proofs.Causes.{accepted, value-is, passed}
+use Rattle.model.specs.calls.Refusals.{over}
+use Rattle.model.specs.list.ShelfList.{shelfList, listTableCauses, listTableAnswer, listTableLeaves}
+use Rattle.model.proofs.calls.Refusals.{accepted, value-is, passed}
 use Rattle.model.proofs.Lists.{part-counts}
 
 module _ (s d t : List ℕ) (a : Answer) (m : ℕ) (e : a ≡ listTableAnswer s d) (w : t ≡ listTableLeaves s d) (h : a ≡ answers.Value m) where

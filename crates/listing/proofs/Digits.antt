@@ -5,9 +5,9 @@ use Prim.Native.Nat.{ℕ, zero, suc, _+_, _*_, _/_, _%_, _≤_, _<_, min}
 use native.Mathlib.Omega.{arith}
 use borrow.Author.Tests.{lt-ltb, le-ltb}
 use lib.ListN.{length, take, drop, getD, set}
-use Rattle.model.specs.Key.{Key}
-use Rattle.model.specs.Refusals.{into}
-use Rattle.model.specs.ShelfList.{digit, hex}
+use Rattle.model.specs.keys.Key.{Key}
+use Rattle.model.specs.inner.Written.{into}
+use Rattle.model.specs.list.ShelfList.{digit, hex}
 use Rattle.records.proofs.Writing.{copy-turn, copy-end}
 
 pub digit-low : (d : ℕ) → d < 10 → 48 + d ≡ digit d

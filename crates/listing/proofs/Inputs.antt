@@ -10,10 +10,10 @@ use lib.Dec.{eqb}
 use lib.ListN.{length, take, drop, length-drop, drop-of-length-le}
 use lib.Seq.{take-nil}
 use Rattle.model.specs.declared.Answer.{Answer}
-use Rattle.model.specs.Record.{recordSize, lengthField}
-use Rattle.model.specs.Refusals.{answer}
-use Rattle.model.specs.TableCalls.{tableCauses}
-use Rattle.model.specs.ShelfList.{listPivots, listEdges, notListSize, listCauses}
+use Rattle.model.specs.records.Record.{recordSize, lengthField}
+use Rattle.model.specs.calls.Refusals.{answer}
+use Rattle.model.specs.calls.TableCalls.{tableCauses}
+use Rattle.model.specs.list.ShelfList.{listPivots, listEdges, notListSize, listCauses}
 use Rattle.model.proofs.Lists.{le-or-lt, rest, take-min}
 
 -- dropping no more than there is

@@ -14,15 +14,16 @@ use Rattle.model.specs.declared.Refusal.{Refusal}
 use Rattle.model.specs.declared.Refusal.the-variants.{Shape, Malformed, Unsorted, EmptyPrefix, OutOfRange, NoSuchSlot, NotPrefix, TooLong, NotBelow, NoRoom}
 use Rattle.model.specs.declared.Answer.{Answer}
 use Rattle.model.specs.declared.Answer.the-variants as answers
-use Rattle.model.specs.Order.{max}
-use Rattle.model.specs.Record.{noEdge, recordSize, elements, edges}
-use Rattle.model.specs.Tables.{PivotTable, EdgeTable, pivotAt, edgeAt}
-use Rattle.model.specs.Refusals.{number, first, answer, over, into}
-use Rattle.model.specs.ShelfList.{newline, header, decimal, refusedWord, slotLine, slotLines, tableText, refusedText}
-use Rattle.model.specs.ShelfList.{listPivots, listEdges, notListSize, listCauses, shelfList, listTableAnswer, listTableLeaves}
-use Rattle.model.proofs.Causes.{here, later, done, value-done, passed, refused-by}
+use Rattle.model.specs.keys.Order.{max}
+use Rattle.model.specs.records.Record.{noEdge, recordSize, elements, edges}
+use Rattle.model.specs.tables.Tables.{PivotTable, EdgeTable, pivotAt, edgeAt}
+use Rattle.model.specs.calls.Refusals.{number, first, answer, over}
+use Rattle.model.specs.inner.Written.{into}
+use Rattle.model.specs.list.ShelfList.{newline, header, decimal, refusedWord, slotLine, slotLines, tableText, refusedText}
+use Rattle.model.specs.list.ShelfList.{listPivots, listEdges, notListSize, listCauses, shelfList, listTableAnswer, listTableLeaves}
+use Rattle.model.proofs.calls.Refusals.{here, later, done, value-done, passed, refused-by}
 use Rattle.model.proofs.Lists.{into-over}
-use Rattle.model.proofs.TableBytes.{length-elements, element-at, edge-at, table-count, table-most, length-edges}
+use Rattle.model.proofs.calls.TableCalls.{length-elements, element-at, edge-at, table-count, table-most, length-edges}
 use Rattle.listing.specs.Text.{field, lineAt, linesTo, countOf, foundText}
 use Rattle.listing.proofs.Texts.{both-length, both-written}
 

@@ -7,12 +7,14 @@ use native.Mathlib.Numerals.{add-one}
 use native.Mathlib.Omega.{arith}
 use borrow.Rule.Slice.PartMut.{putMid}
 use lib.ListN.{length, take, drop, length-take, List·getD-eq-default}
-use Rattle.model.specs.Record.{recordSize, pieces, records, recordAt, element, edgeOf}
-use Rattle.model.specs.RangePrefix.{PivotLcp}
-use Rattle.model.specs.Refusals.{over, into}
-use Rattle.model.specs.ShelfList.{tab, newline, decimal, keyText, elementText, edgeText, slotLine}
+use Rattle.model.specs.records.Record.{recordSize, pieces, records, element, edgeOf}
+use Rattle.model.specs.inner.Places.{recordAt}
+use Rattle.model.specs.ranges.RangePrefix.{PivotLcp}
+use Rattle.model.specs.calls.Refusals.{over}
+use Rattle.model.specs.inner.Written.{into}
+use Rattle.model.specs.list.ShelfList.{tab, newline, decimal, keyText, elementText, edgeText, slotLine}
 use Rattle.model.proofs.Lists.{le-or-lt, into-over}
-use Rattle.model.proofs.Records.{length-pieces, piece-at}
+use Rattle.model.proofs.records.Records.{length-pieces, piece-at}
 use Rattle.listing.specs.Text.{field, lineHead, lineRest, lineAt, linesTo}
 use Rattle.listing.proofs.Texts.{both-length, both-written}
 

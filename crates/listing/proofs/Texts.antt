@@ -8,15 +8,15 @@ use borrow.Author.Tests.{lt-ltb, le-ltb}
 use borrow.Rule.Slice.PartMut.{putMid}
 use lib.Dec.{eqb}
 use lib.ListN.{length, take, drop, length-append, length-take, length-drop}
-use Rattle.model.specs.Key.{Key}
-use Rattle.model.specs.Order.{key, max}
-use Rattle.model.specs.Record.{edge, noEdge, maxMark, noEdgeMark, lengthField, keyBytes, element, edgeOf}
-use Rattle.model.specs.RangePrefix.{PivotLcp}
-use Rattle.model.specs.Refusals.{into}
-use Rattle.model.specs.ShelfList.{tab, newline, digit, decimal, hex, dash, maxWord, keyText, elementText, edgeText}
+use Rattle.model.specs.keys.Key.{Key}
+use Rattle.model.specs.keys.Order.{key, max}
+use Rattle.model.specs.records.Record.{edge, noEdge, maxMark, noEdgeMark, lengthField, keyBytes, element, edgeOf}
+use Rattle.model.specs.ranges.RangePrefix.{PivotLcp}
+use Rattle.model.specs.inner.Written.{into}
+use Rattle.model.specs.list.ShelfList.{tab, newline, digit, decimal, hex, dash, maxWord, keyText, elementText, edgeText}
 use Rattle.model.proofs.Lists.{length-over, written-on}
-use Rattle.model.proofs.Prefix.{prefix-is-take}
-use Rattle.model.proofs.RangePrefix.{prefix-of-left}
+use Rattle.model.proofs.keys.Key.{prefix-is-take}
+use Rattle.model.proofs.ranges.RangePrefix.{prefix-of-left}
 use Rattle.listing.specs.Text.{field, pivotField, sharedField, edgeField}
 
 -- ---- two texts one after the other

@@ -3,9 +3,10 @@ use mathlib.Core.List.{List, [], _∷_, _++_}
 use Prim.Native.Nat.{ℕ, zero, suc, _+_, _-_}
 use Rattle.model.specs.declared.Answer.{Answer}
 use Rattle.model.specs.declared.Answer.the-variants as answers
-use Rattle.model.specs.Record.{recordAt, element, edgeOf}
-use Rattle.model.specs.RangePrefix.{PivotLcp}
-use Rattle.model.specs.ShelfList.{tab, newline, header, decimal, keyText, elementText, edgeText, slotLine, refusedText}
+use Rattle.model.specs.records.Record.{element, edgeOf}
+use Rattle.model.specs.inner.Places.{recordAt}
+use Rattle.model.specs.ranges.RangePrefix.{PivotLcp}
+use Rattle.model.specs.list.ShelfList.{tab, newline, header, decimal, keyText, elementText, edgeText, slotLine, refusedText}
 
 -- a text and the byte that ends it
 unfoldable pub field : List ℕ → ℕ → List ℕ

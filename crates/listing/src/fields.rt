@@ -2,8 +2,8 @@
 ghost use mathlib.Core.Path.{_≡_};
 ghost use Prim.Native.Nat.{_+_, _*_, _≤_, _<_};
 ghost use lib.ListN.{length, getD};
-ghost use Rattle.model.specs.Refusals.{into};
-ghost use Rattle.model.specs.ShelfList.{digit, decimal, hex, keyText};
+ghost use Rattle.model.specs.inner.Written.{into};
+ghost use Rattle.model.specs.list.ShelfList.{digit, decimal, hex, keyText};
 ghost use Rattle.listing.specs.Text.{field, pivotField, sharedField, edgeField};
 
 fn wide(x: u8) -> usize

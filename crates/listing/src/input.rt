@@ -4,9 +4,9 @@ use model::RECORD_SIZE;
 ghost use mathlib.Core.Path.{_≡_};
 ghost use Prim.Native.Nat.{_/_, _<_};
 ghost use lib.ListN.{length};
-ghost use Rattle.model.specs.Record.{recordSize};
-ghost use Rattle.model.specs.Refusals.{answer};
-ghost use Rattle.model.specs.ShelfList.{listCount, listPivots, listEdges, notListSize, listCauses};
+ghost use Rattle.model.specs.records.Record.{recordSize};
+ghost use Rattle.model.specs.calls.Refusals.{answer};
+ghost use Rattle.model.specs.list.ShelfList.{listCount, listPivots, listEdges, notListSize, listCauses};
 
 fn wide(x: u16) -> usize
     ensures { λ r. ⌜ (r ≡ x) × (r < 65536) ⌝ }

@@ -7,8 +7,8 @@ ghost use mathlib.Core.Path.{_≡_};
 ghost use mathlib.Core.List.{_++_};
 ghost use Prim.Native.Nat.{_+_, _*_, _-_, _≤_, _<_};
 ghost use lib.ListN.{length};
-ghost use Rattle.model.specs.Refusals.{into};
-ghost use Rattle.model.specs.ShelfList.{header};
+ghost use Rattle.model.specs.inner.Written.{into};
+ghost use Rattle.model.specs.list.ShelfList.{header};
 ghost use Rattle.listing.specs.Text.{pivotField, lineHead, lineRest, lineAt, linesTo};
 
 // The two pivots of a slot.

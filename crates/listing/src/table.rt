@@ -9,8 +9,8 @@ use model::Refusal;
 ghost use mathlib.Core.Path.{_≡_};
 ghost use Prim.Native.Nat.{_≤_};
 ghost use lib.ListN.{length};
-ghost use Rattle.model.specs.Refusals.{into};
-ghost use Rattle.model.specs.ShelfList.{refusedText, listTableAnswer, listTableLeaves};
+ghost use Rattle.model.specs.inner.Written.{into};
+ghost use Rattle.model.specs.list.ShelfList.{refusedText, listTableAnswer, listTableLeaves};
 ghost use Rattle.listing.specs.Text.{countOf, foundText};
 
 // The line of a table that is refused, as far as there is room. Answers its length.

@@ -11,11 +11,12 @@ use borrow.Author.Tests.{leb-true, leb-false}
 use lib.ListN.{length, take, drop, getD, length-append, length-drop, take-append-drop, drop-of-length-le}
 use lib.Seq.{drop-cons, drop-drop, take-all, take-length, length-take-le, take-append-seam, drop-append-seam, take-append-le, take-append-add}
 use borrow.Rule.Slice.PartMut.{putMid}
-use Rattle.model.specs.Key.{Key, maxLen}
-use Rattle.model.specs.Record.{clipped}
-use Rattle.model.specs.Tables.{all}
-use Rattle.model.specs.Refusals.{over, into}
-use Rattle.model.proofs.Prefix.{both}
+use Rattle.model.specs.keys.Key.{Key, maxLen}
+use Rattle.model.specs.inner.Written.{clipped}
+use Rattle.model.specs.tables.Tables.{all}
+use Rattle.model.specs.calls.Refusals.{over}
+use Rattle.model.specs.inner.Written.{into}
+use Rattle.model.proofs.keys.Key.{both}
 
 -- of two numbers one is at most the other
 pub le-or-lt : (a b : ℕ) → (a ≤ b) ⊎ (b < a)

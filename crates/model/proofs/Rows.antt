@@ -1,20 +1,20 @@
 -- The sixteen rows hold, and T's list is the one in document 01.
 use mathlib.Core.Path.{_≡_, refl}
 use mathlib.Core.List.{_++_}
-use Rattle.model.specs.Key.{changePrefix, IsPrefix}
-use Rattle.model.specs.Order.{lteKey, lte, lastPlace, LargestLte, LargestLt}
-use Rattle.model.specs.RangePrefix.{lcpright, lcp, PivotLcp}
-use Rattle.model.specs.UpperBound.{raisedAt, uncommonFrom, ShortestUncommonPrefix}
-use Rattle.model.specs.Record.{lengthField, allZero, fieldReading, reading, keyBytes, element, edgeOf, recordOf, encode, encodeEdge}
-use Rattle.model.specs.Record.{pieces, joined, records, elements, edges, encodeAll, encodeEdges}
-use Rattle.model.specs.Tables.{all, risesFrom, IsStrictlySorted, edgesFit, WFEdges, Route, CutoffForLeft, CutoffForRight}
-use Rattle.model.specs.Cuts.{SplitLeft, SplitRight, cutEdge, edgeWithin, SplitLeftEdges, SplitRightEdges}
-use Rattle.model.specs.Translation.{RevPrefixSet, ApplyPrefixSet, ComposePrefixSet}
-use Rattle.model.specs.Pivots.{TranslateElement, translateRight, TranslatePivotPairInternal}
-use Rattle.model.specs.Refusals.{outcome}
-use Rattle.model.specs.TableCalls.{notPivotCount, notEdgeCount, pivotsRead, edgesRead, pivotCauses, tableCauses}
-use Rattle.model.specs.ShelfList.{header, dash, digit, decimal, hex, keyText, elementText, edgeText, slotLine, slotLines, tableText}
-use Rattle.model.specs.ShelfList.{listPivots, listEdges, notListSize, listCauses, shelfList}
+use Rattle.model.specs.keys.Key.{changePrefix, IsPrefix}
+use Rattle.model.specs.keys.Order.{lteKey, lte, lastPlace, LargestLte, LargestLt}
+use Rattle.model.specs.ranges.RangePrefix.{lcpright, lcp, PivotLcp}
+use Rattle.model.specs.ranges.UpperBound.{raisedAt, uncommonFrom, ShortestUncommonPrefix}
+use Rattle.model.specs.records.Record.{lengthField, allZero, fieldReading, reading, keyBytes, element, edgeOf, recordOf, encode, encodeEdge}
+use Rattle.model.specs.records.Record.{pieces, joined, records, elements, edges, encodeAll, encodeEdges}
+use Rattle.model.specs.tables.Tables.{all, risesFrom, IsStrictlySorted, edgesFit, WFEdges, Route, CutoffForLeft, CutoffForRight}
+use Rattle.model.specs.cuts.Cuts.{SplitLeft, SplitRight, cutEdge, edgeWithin, SplitLeftEdges, SplitRightEdges}
+use Rattle.model.specs.translation.PrefixSet.{RevPrefixSet, ApplyPrefixSet, ComposePrefixSet}
+use Rattle.model.specs.translation.Renaming.{TranslateElement, translateRight, TranslatePivotPairInternal}
+use Rattle.model.specs.calls.Refusals.{outcome}
+use Rattle.model.specs.calls.TableCalls.{notPivotCount, notEdgeCount, pivotsRead, edgesRead, pivotCauses, tableCauses}
+use Rattle.model.specs.list.ShelfList.{header, dash, digit, decimal, hex, keyText, elementText, edgeText, slotLine, slotLines, tableText}
+use Rattle.model.specs.list.ShelfList.{listPivots, listEdges, notListSize, listCauses, shelfList}
 use Rattle.model.specs.Rows.{AllHold, rows, inputT, linesT}
 
 pub cases : AllHold rows

@@ -3,15 +3,15 @@ use mathlib.Core.Path.{_≡_}
 use mathlib.Core.List.{List, [], _∷_, _++_}
 use mathlib.Core.Option.{Option, none}
 use Prim.Native.Nat.{ℕ}
-use Rattle.model.specs.Key.{Key}
-use Rattle.model.specs.Order.{Element, key, max}
-use Rattle.model.specs.Record.{edge, noEdge, encodeAll, encodeEdges}
-use Rattle.model.specs.RangePrefix.{PivotLcp}
-use Rattle.model.specs.UpperBound.{ShortestUncommonPrefix}
-use Rattle.model.specs.Tables.{PivotTable, EdgeTable}
-use Rattle.model.specs.Cuts.{SplitLeft, SplitRight, SplitLeftEdges, SplitRightEdges}
-use Rattle.model.specs.Translation.{PrefixSet, pair, ComposePrefixSet}
-use Rattle.model.specs.Pivots.{TranslatePivotPairInternal}
+use Rattle.model.specs.keys.Key.{Key}
+use Rattle.model.specs.keys.Order.{Element, key, max}
+use Rattle.model.specs.records.Record.{edge, noEdge, encodeAll, encodeEdges}
+use Rattle.model.specs.ranges.RangePrefix.{PivotLcp}
+use Rattle.model.specs.ranges.UpperBound.{ShortestUncommonPrefix}
+use Rattle.model.specs.tables.Tables.{PivotTable, EdgeTable}
+use Rattle.model.specs.cuts.Cuts.{SplitLeft, SplitRight, SplitLeftEdges, SplitRightEdges}
+use Rattle.model.specs.translation.PrefixSet.{PrefixSet, pair, ComposePrefixSet}
+use Rattle.model.specs.translation.Renaming.{TranslatePivotPairInternal}
 
 pub data Row : Type 0 where
   prefixOf : Key → Element → Key → Row

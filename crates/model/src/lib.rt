@@ -1,7 +1,7 @@
 // What every crate shares by name: the limits, the refusals, and the answers of the calls.
 // This crate has no function. Its definitions are in specs/, its laws in proofs/.
 
-// The limits of specs/Key, Record, Bucket and Tables, for use in code.
+// The limits of specs/keys/Key, records/Record, buckets/Bucket and tables/Tables, for use in code.
 pub const MAX_LEN: usize = 64;
 
 pub const RECORD_SIZE: usize = 66;
@@ -12,7 +12,7 @@ pub const MIN_PIVOTS: usize = 2;
 
 pub const MAX_PIVOTS: usize = 64;
 
-// Why a call refuses. `number` in specs/Refusals.antt gives each its number.
+// Why a call refuses. `number` in specs/calls/Refusals.antt gives each its number.
 pub enum Refusal {
     Shape,
     Malformed,

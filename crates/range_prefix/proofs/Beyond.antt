@@ -10,12 +10,12 @@ use lib.Dec.{eqb}
 use lib.ListN.{length, take, drop, getD, drop-of-length-le, length-drop}
 use mir.Val.{Fits}
 use mir.Syntax.{w64}
-use Rattle.model.specs.Key.{Key, isNil, commonRun}
-use Rattle.model.specs.Order.{key, max}
-use Rattle.model.specs.Record.{lengthField, keyBytes, element, maxMark}
-use Rattle.model.specs.RangePrefix.{lcpright, lcp, PivotLcp}
+use Rattle.model.specs.keys.Key.{Key, isNil, commonRun}
+use Rattle.model.specs.keys.Order.{key, max}
+use Rattle.model.specs.records.Record.{lengthField, keyBytes, element, maxMark}
+use Rattle.model.specs.ranges.RangePrefix.{lcpright, lcp, PivotLcp}
 use Rattle.model.proofs.Lists.{drop-step, rest, le-or-lt}
-use Rattle.model.proofs.CommonRun.{differ-at}
+use Rattle.model.proofs.keys.CommonRun.{differ-at}
 
 -- the range prefix is the common run and the range prefix of what follows it
 after : (l r : Key) → length (commonRun l r) + length (lcp (drop (length (commonRun l r)) l) (drop (length (commonRun l r)) r)) ≡ length (lcp l r)

@@ -7,10 +7,10 @@ ghost use mathlib.Core.Path.{_≡_};
 ghost use Prim.Native.Nat.{_+_, _≤_};
 ghost use lib.Dec.{eqb};
 ghost use lib.ListN.{length};
-ghost use Rattle.model.specs.Order.{key};
-ghost use Rattle.model.specs.Record.{element};
-ghost use Rattle.model.specs.RangePrefix.{lcp, PivotLcp};
-ghost use Rattle.model.specs.Calls.{pivotLcpAnswer};
+ghost use Rattle.model.specs.keys.Order.{key};
+ghost use Rattle.model.specs.records.Record.{element};
+ghost use Rattle.model.specs.ranges.RangePrefix.{lcp, PivotLcp};
+ghost use Rattle.model.specs.calls.KeyCalls.{pivotLcpAnswer};
 
 // Whether y is x plus 1.
 fn is_next(x: u8, y: u8) -> bool

@@ -13,10 +13,11 @@ use mir.Val.{Fits}
 use mir.Syntax.{w64}
 use Rattle.model.specs.declared.Reading.{Reading}
 use Rattle.model.specs.declared.Reading.the-variants.{Key, Malformed, NoEdge, Max}
-use Rattle.model.specs.Key.{maxLen}
-use Rattle.model.specs.Record.{lengthField, fieldReading, keyLength, reading, allZero, keyBytes, allowed, recordSize, records, recordAt}
+use Rattle.model.specs.keys.Key.{maxLen}
+use Rattle.model.specs.records.Record.{lengthField, fieldReading, keyLength, reading, allZero, keyBytes, allowed, recordSize, records}
+use Rattle.model.specs.inner.Places.{recordAt}
 use Rattle.model.proofs.Lists.{take-min}
-use Rattle.model.proofs.Records.{length-pieces, piece-at}
+use Rattle.model.proofs.records.Records.{length-pieces, piece-at}
 
 -- ---- the length field
 

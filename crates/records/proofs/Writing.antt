@@ -7,9 +7,11 @@ use native.Mathlib.Numerals.{add-one}
 use native.Mathlib.Omega.{arith}
 use lib.ListN.{length, take, drop, getD, set, length-set, length-take}
 use lib.Seq.{take-suc, set-at, append-snoc, length-take-le}
-use Rattle.model.specs.Key.{maxLen}
-use Rattle.model.specs.Record.{zeros, recordOf, clipped}
-use Rattle.model.specs.Refusals.{over, into}
+use Rattle.model.specs.keys.Key.{maxLen}
+use Rattle.model.specs.records.Record.{zeros, recordOf}
+use Rattle.model.specs.inner.Written.{clipped}
+use Rattle.model.specs.calls.Refusals.{over}
+use Rattle.model.specs.inner.Written.{into}
 use Rattle.model.proofs.Lists.{drop-step, take-min, two-more}
 
 pub set-kept : (d₀ d : List ℕ) (i v : ℕ) → length d ≡ length d₀ → length (set d i v) ≡ length d₀

@@ -4,7 +4,8 @@ use model::Reading;
 ghost use mathlib.Core.Path.{_≡_};
 ghost use Prim.Native.Nat.{_+_, _≤_, _<_};
 ghost use lib.Dec.{eqb};
-ghost use Rattle.model.specs.Record.{lengthField, fieldReading, keyLength, reading, keyBytes, allowed, elementReading, edgeReading, noEdgeMark, maxMark, recordAt};
+ghost use Rattle.model.specs.records.Record.{lengthField, fieldReading, keyLength, reading, keyBytes, allowed, elementReading, edgeReading, noEdgeMark, maxMark};
+ghost use Rattle.model.specs.inner.Places.{recordAt};
 
 fn wide16(x: u8) -> u16
     ensures { λ r. ⌜ (r ≡ x) × (r < 256) ⌝ }

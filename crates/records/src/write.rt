@@ -3,8 +3,9 @@ use model::MAX_LEN;
 use model::RECORD_SIZE;
 ghost use mathlib.Core.Path.{_≡_};
 ghost use mathlib.Core.List.{_++_};
-ghost use Rattle.model.specs.Record.{recordOf, clipped};
-ghost use Rattle.model.specs.Refusals.{into};
+ghost use Rattle.model.specs.records.Record.{recordOf};
+ghost use Rattle.model.specs.inner.Written.{clipped};
+ghost use Rattle.model.specs.inner.Written.{into};
 
 // Copies src to the head of dst, as far as there is room.
 pub fn copy(src: &[u8], dst: &mut [u8])

@@ -1,7 +1,7 @@
 // The number of each refusal. No public function has a `requires`.
 use model::Refusal;
 ghost use mathlib.Core.Path.{_≡_};
-ghost use Rattle.model.specs.Refusals.{number};
+ghost use Rattle.model.specs.calls.Refusals.{number};
 
 // The paper's number of a refusal.
 pub fn refusal_number(r: Refusal) -> u32

@@ -13,16 +13,17 @@ use Rattle.model.specs.declared.Answer.{Answer}
 use Rattle.model.specs.declared.Answer.the-variants as answers
 use Rattle.model.specs.declared.Routed.{Routed}
 use Rattle.model.specs.declared.Routed.the-variants.{Slot, Refused}
-use Rattle.model.specs.Key.{Key}
-use Rattle.model.specs.Order.{Element, key, passes, lastPlace, LargestLte, LargestLt}
-use Rattle.model.specs.Record.{recordAt, element, elements}
-use Rattle.model.specs.Tables.{PivotTable, pivotAt, lastPivot, IsStrictlySorted, WFPivots, BoundedKey, ValidLeftCutOffKey, Route, CutoffForLeft, CutoffForRight}
-use Rattle.model.specs.Refusals.{_⇒_, outcome, routing}
-use Rattle.model.proofs.Causes.{here, later, slot-done}
-use Rattle.model.proofs.Places.{place-turn, place-all, place-most, bounded-place, valid-place}
-use Rattle.model.proofs.Routing.{wf-sorted, wf-count}
-use Rattle.model.proofs.TableBytes.{length-elements, element-at}
-use Rattle.model.specs.Sides.{inside, cutoff}
+use Rattle.model.specs.keys.Key.{Key}
+use Rattle.model.specs.keys.Order.{Element, key, passes, lastPlace, LargestLte, LargestLt}
+use Rattle.model.specs.records.Record.{element, elements}
+use Rattle.model.specs.inner.Places.{recordAt}
+use Rattle.model.specs.tables.Tables.{PivotTable, pivotAt, lastPivot, IsStrictlySorted, WFPivots, BoundedKey, ValidLeftCutOffKey, Route, CutoffForLeft, CutoffForRight}
+use Rattle.model.specs.calls.Refusals.{_⇒_, outcome, routing}
+use Rattle.model.proofs.calls.Refusals.{here, later, slot-done}
+use Rattle.model.proofs.tables.Places.{place-turn, place-all, place-most, bounded-place, valid-place}
+use Rattle.model.proofs.tables.Routing.{wf-sorted, wf-count}
+use Rattle.model.proofs.calls.TableCalls.{length-elements, element-at}
+use Rattle.model.specs.cuts.Sides.{inside, cutoff}
 
 -- the pivots before the place i pass, by the last of them
 pub record Scan (p : List ℕ) (k : Key) (strict : Bool) (i : ℕ) : Type 0 where

@@ -8,13 +8,13 @@ ghost use mathlib.Core.Path.{_≡_};
 ghost use mathlib.Core.Bool.{true, not};
 ghost use mathlib.Core.List.{_∷_, []};
 ghost use Rattle.model.specs.declared.Refusal.the-variants.{OutOfRange};
-ghost use Rattle.model.specs.Order.{key, passes, lastPlace};
-ghost use Rattle.model.specs.Record.{elements};
-ghost use Rattle.model.specs.Tables.{WFPivots};
-ghost use Rattle.model.specs.Refusals.{_⇒_, routing, slotAnswer};
-ghost use Rattle.model.specs.TableCalls.{slotCauses, routeAnswer, cutoffForLeftAnswer, cutoffForRightAnswer};
-ghost use Rattle.model.specs.Sides.{inside, cutoff};
-ghost use Rattle.model.specs.CutCalls.{edgeSlotCauses};
+ghost use Rattle.model.specs.keys.Order.{key, passes, lastPlace};
+ghost use Rattle.model.specs.records.Record.{elements};
+ghost use Rattle.model.specs.tables.Tables.{WFPivots};
+ghost use Rattle.model.specs.calls.Refusals.{_⇒_, routing, slotAnswer};
+ghost use Rattle.model.specs.calls.TableCalls.{slotCauses, routeAnswer, cutoffForLeftAnswer, cutoffForRightAnswer};
+ghost use Rattle.model.specs.cuts.Sides.{inside, cutoff};
+ghost use Rattle.model.specs.calls.TableCalls.{edgeSlotCauses};
 
 // How many pivots are not above the key or, where strict, below it: they stand first.
 fn place(pivots: &[u8], k: &[u8], strict: bool) -> usize

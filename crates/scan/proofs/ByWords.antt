@@ -9,9 +9,9 @@ use mir.Val.{Fits}
 use borrow.Author.Tests.{eq-eqb}
 use lib.ListN.{length, drop, getD, length-drop}
 use lib.Seq.{drop-drop, getD-drop}
-use Rattle.model.specs.Key.{Bytes, commonRun}
-use Rattle.model.specs.Record.{allZero}
-use Rattle.model.proofs.Prefix.{bytes-of, bytes-drop}
+use Rattle.model.specs.keys.Key.{Bytes, commonRun}
+use Rattle.model.specs.records.Record.{allZero}
+use Rattle.model.proofs.keys.Key.{bytes-of, bytes-drop}
 use Rattle.scan.specs.Word.{wordOf}
 
 -- ---- lists whose first n bytes make one word

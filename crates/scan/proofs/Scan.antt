@@ -8,11 +8,11 @@ use native.Mathlib.Omega.{arith}
 use borrow.Author.Tests.{eq-eqb, ne-eqb}
 use lib.Dec.{eqb}
 use lib.ListN.{length, drop, getD, drop-of-length-le, List·getD-eq-default}
-use Rattle.model.specs.Key.{IsPrefix, commonRun}
-use Rattle.model.specs.Record.{allZero}
-use Rattle.model.specs.RangePrefix.{lcpright}
+use Rattle.model.specs.keys.Key.{IsPrefix, commonRun}
+use Rattle.model.specs.records.Record.{allZero}
+use Rattle.model.specs.ranges.RangePrefix.{lcpright}
 use Rattle.model.proofs.Lists.{drop-step, le-or-lt}
-use Rattle.model.proofs.Prefix.{prefix-common}
+use Rattle.model.proofs.keys.Key.{prefix-common}
 
 -- past the end of a list there is no byte
 pub past-end : (a : List ℕ) (i : ℕ) → length a ≤ i → 0 ≡ getD a i 0

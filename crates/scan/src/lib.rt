@@ -8,9 +8,9 @@ use words::zero_words;
 ghost use mathlib.Core.Path.{_≡_};
 ghost use Prim.Native.Nat.{_≤_, min};
 ghost use lib.ListN.{length, drop, getD};
-ghost use Rattle.model.specs.Key.{IsPrefix, commonRun};
-ghost use Rattle.model.specs.Record.{allZero};
-ghost use Rattle.model.specs.RangePrefix.{lcpright};
+ghost use Rattle.model.specs.keys.Key.{IsPrefix, commonRun};
+ghost use Rattle.model.specs.records.Record.{allZero};
+ghost use Rattle.model.specs.ranges.RangePrefix.{lcpright};
 
 // The byte at a place, or 0 past the end.
 pub fn byte_at(s: &[u8], i: usize) -> u8

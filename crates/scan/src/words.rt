@@ -2,8 +2,8 @@
 ghost use mathlib.Core.Path.{_≡_};
 ghost use Prim.Native.Nat.{_+_, _≤_, _<_};
 ghost use lib.ListN.{length, drop};
-ghost use Rattle.model.specs.Key.{commonRun};
-ghost use Rattle.model.specs.Record.{allZero};
+ghost use Rattle.model.specs.keys.Key.{commonRun};
+ghost use Rattle.model.specs.records.Record.{allZero};
 ghost use Rattle.scan.specs.Word.{wordOf};
 
 fn wide(x: u8) -> u64

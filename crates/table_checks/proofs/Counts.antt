@@ -8,7 +8,7 @@ use native.Mathlib.Omega.{arith}
 use borrow.Author.Tests.{eq-eqb, ne-eqb, eqb-true, eqb-false, le-leb, lt-leb, lt-ltb, le-ltb}
 use lib.Dec.{eqb, leb, ltb}
 use lib.ListN.{length}
-use Rattle.model.specs.TableCalls.{notPivotCount, notEdgeCount}
+use Rattle.model.specs.calls.TableCalls.{notPivotCount, notEdgeCount}
 use Rattle.model.proofs.Lists.{le-or-lt}
 
 module _ (p : List ℕ) where

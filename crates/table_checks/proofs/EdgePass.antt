@@ -9,13 +9,14 @@ use borrow.Author.Tests.{not-true, not-false, eq-eqb, ne-eqb}
 use lib.Dec.{eqb}
 use lib.ListN.{length, drop, getD, drop-of-length-le}
 use lib.Seq.{drop-cons}
-use Rattle.model.specs.Key.{Key, isNil}
-use Rattle.model.specs.Order.{Element, max}
-use Rattle.model.specs.Record.{Edge, edge, noEdge, noEdgeMark, recordSize, lengthField, reading, edgeReading, records, recordAt, element, edgeOf, elements, edges}
-use Rattle.model.specs.RangePrefix.{PivotLcp}
-use Rattle.model.specs.Tables.{PivotTable, EdgeTable, pivotAt, edgeAt, all, edgeFits, edgesFit, WFEdges}
-use Rattle.model.specs.TableCalls.{edgesRead, edgesStand}
-use Rattle.model.proofs.TableBytes.{length-records, length-elements, length-edges, element-at, edge-at}
+use Rattle.model.specs.keys.Key.{Key, isNil}
+use Rattle.model.specs.keys.Order.{Element, max}
+use Rattle.model.specs.records.Record.{Edge, edge, noEdge, noEdgeMark, recordSize, lengthField, reading, edgeReading, records, element, edgeOf, elements, edges}
+use Rattle.model.specs.inner.Places.{recordAt}
+use Rattle.model.specs.ranges.RangePrefix.{PivotLcp}
+use Rattle.model.specs.tables.Tables.{PivotTable, EdgeTable, pivotAt, edgeAt, all, edgeFits, edgesFit, WFEdges}
+use Rattle.model.specs.calls.TableCalls.{edgesRead, edgesStand}
+use Rattle.model.proofs.calls.TableCalls.{length-records, length-elements, length-edges, element-at, edge-at}
 
 -- ---- are they read as edges?
 

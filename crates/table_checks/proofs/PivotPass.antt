@@ -14,14 +14,15 @@ use mir.Val.{Fits}
 use Rattle.model.specs.declared.Refusal.the-variants.{Malformed, Unsorted}
 use Rattle.model.specs.declared.Answer.{Answer}
 use Rattle.model.specs.declared.Answer.the-variants.{Value, Refused}
-use Rattle.model.specs.Key.{isNil}
-use Rattle.model.specs.Order.{Element, max, lt}
-use Rattle.model.specs.Record.{recordSize, reading, keyReading, elementReading, records, recordAt, element, elements}
-use Rattle.model.specs.Tables.{PivotTable, minPivots, maxPivots, pivotAt, risesFrom, IsStrictlySorted}
-use Rattle.model.specs.Refusals.{outcome, answer}
-use Rattle.model.specs.TableCalls.{notPivotCount, pivotsRead, pivotCauses}
-use Rattle.model.proofs.Prefix.{both}
-use Rattle.model.proofs.TableBytes.{length-records, length-elements, element-at}
+use Rattle.model.specs.keys.Key.{isNil}
+use Rattle.model.specs.keys.Order.{Element, max, lt}
+use Rattle.model.specs.records.Record.{recordSize, reading, keyReading, elementReading, records, element, elements}
+use Rattle.model.specs.inner.Places.{recordAt}
+use Rattle.model.specs.tables.Tables.{PivotTable, minPivots, maxPivots, pivotAt, risesFrom, IsStrictlySorted}
+use Rattle.model.specs.calls.Refusals.{outcome, answer}
+use Rattle.model.specs.calls.TableCalls.{notPivotCount, pivotsRead, pivotCauses}
+use Rattle.model.proofs.keys.Key.{both}
+use Rattle.model.proofs.calls.TableCalls.{length-records, length-elements, element-at}
 
 -- ---- a list of records, and of pivots, from a place on
 

@@ -8,10 +8,10 @@ use Rattle.model.specs.declared.Refusal.{Refusal}
 use Rattle.model.specs.declared.Refusal.the-variants.{EmptyPrefix}
 use Rattle.model.specs.declared.Answer.{Answer}
 use Rattle.model.specs.declared.Answer.the-variants.{Value, Refused}
-use Rattle.model.specs.Record.{records}
-use Rattle.model.specs.Refusals.{_⇒_, outcome, answer}
-use Rattle.model.specs.TableCalls.{notEdgeCount, edgesRead, edgesStand, pivotCauses, tableCauses}
-use Rattle.model.proofs.Causes.{here, later, done, handed-on-first, call-passed-first, value-is}
+use Rattle.model.specs.records.Record.{records}
+use Rattle.model.specs.calls.Refusals.{_⇒_, outcome, answer}
+use Rattle.model.specs.calls.TableCalls.{notEdgeCount, edgesRead, edgesStand, pivotCauses, tableCauses}
+use Rattle.model.proofs.calls.Refusals.{here, later, done, handed-on-first, call-passed-first, value-is}
 
 module _ (p e : List ℕ) (shape wrong odd bad s t : Bool) (n : ℕ) (x : Answer) (f : x ≡ answer (pivotCauses odd bad p) n)
     (o : odd ≡ (shape || s)) (so : s ≡ notEdgeCount p e) (b : bad ≡ (wrong || not t)) (tb : t ≡ edgesRead (records e)) where

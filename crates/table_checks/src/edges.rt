@@ -7,11 +7,12 @@ ghost use mathlib.Core.Path.{_≡_};
 ghost use mathlib.Core.Bool.{_||_};
 ghost use Prim.Native.Nat.{_+_, _/_, _<_};
 ghost use lib.ListN.{length};
-ghost use Rattle.model.specs.Record.{recordSize, recordAt, element, edgeOf, records};
-ghost use Rattle.model.specs.RangePrefix.{PivotLcp};
-ghost use Rattle.model.specs.Tables.{edgeFits};
-ghost use Rattle.model.specs.Refusals.{answer};
-ghost use Rattle.model.specs.TableCalls.{notEdgeCount, edgesRead, edgesStand, tableCauses};
+ghost use Rattle.model.specs.records.Record.{recordSize, element, edgeOf, records};
+ghost use Rattle.model.specs.inner.Places.{recordAt};
+ghost use Rattle.model.specs.ranges.RangePrefix.{PivotLcp};
+ghost use Rattle.model.specs.tables.Tables.{edgeFits};
+ghost use Rattle.model.specs.calls.Refusals.{answer};
+ghost use Rattle.model.specs.calls.TableCalls.{notEdgeCount, edgesRead, edgesStand, tableCauses};
 
 fn either(a: bool, b: bool) -> bool
     ensures { λ r. ⌜ r ≡ (a || b) ⌝ }

@@ -8,10 +8,11 @@ ghost use mathlib.Core.Path.{_≡_};
 ghost use mathlib.Core.Bool.{false, _&&_};
 ghost use Prim.Native.Nat.{_+_, _/_, _<_};
 ghost use lib.ListN.{length};
-ghost use Rattle.model.specs.Order.{lt};
-ghost use Rattle.model.specs.Record.{recordSize, recordAt, element};
-ghost use Rattle.model.specs.Refusals.{answer};
-ghost use Rattle.model.specs.TableCalls.{notPivotCount, pivotCauses};
+ghost use Rattle.model.specs.keys.Order.{lt};
+ghost use Rattle.model.specs.records.Record.{recordSize, element};
+ghost use Rattle.model.specs.inner.Places.{recordAt};
+ghost use Rattle.model.specs.calls.Refusals.{answer};
+ghost use Rattle.model.specs.calls.TableCalls.{notPivotCount, pivotCauses};
 
 // Whether a slice isn't whole records, or not as many as a table may have.
 fn not_pivot_count(pivots: &[u8]) -> bool

@@ -13,19 +13,20 @@ use Rattle.model.specs.declared.Answer.{Answer}
 use Rattle.model.specs.declared.Answer.the-variants as answers
 use Rattle.model.specs.declared.Decided.{Decided}
 use Rattle.model.specs.declared.Decided.the-variants.{Refused}
-use Rattle.model.specs.Key.{Key, tooLong}
-use Rattle.model.specs.Order.{Element, key, max, lte, lteKey, lt, same, passes}
-use Rattle.model.specs.Record.{maxMark, lengthField, keyBytes, reading, elementReading, recordAt, element, elements}
-use Rattle.model.specs.Tables.{PivotTable, pivotAt, lastPivot, WFPivots, BoundedKey, ValidLeftCutOffKey, ContainsAllKeys, ContainsRange}
-use Rattle.model.specs.Refusals.{_⇒_, yesOrNo, answer, decision}
-use Rattle.model.specs.Calls.{notRecord, notElement}
-use Rattle.model.specs.TableCalls.{pivotCauses, containsRangeAnswer}
-use Rattle.model.proofs.Order.{lte-max}
-use Rattle.model.proofs.Causes.{here, later, done, handed-on-first, call-passed-first}
-use Rattle.model.proofs.Places.{within, bounded-within, valid-within}
-use Rattle.model.proofs.Routing.{wf-count}
-use Rattle.model.proofs.TableBytes.{length-elements, element-at}
-use Rattle.model.specs.Sides.{inside}
+use Rattle.model.specs.keys.Key.{Key, tooLong}
+use Rattle.model.specs.keys.Order.{Element, key, max, lte, lteKey, lt, same, passes}
+use Rattle.model.specs.records.Record.{maxMark, lengthField, keyBytes, reading, elementReading, element, elements}
+use Rattle.model.specs.inner.Places.{recordAt}
+use Rattle.model.specs.tables.Tables.{PivotTable, pivotAt, lastPivot, WFPivots, BoundedKey, ValidLeftCutOffKey, ContainsAllKeys, ContainsRange}
+use Rattle.model.specs.calls.Refusals.{_⇒_, yesOrNo, answer, decision}
+use Rattle.model.specs.calls.KeyCalls.{notRecord, notElement}
+use Rattle.model.specs.calls.TableCalls.{pivotCauses, containsRangeAnswer}
+use Rattle.model.proofs.keys.Order.{lte-max}
+use Rattle.model.proofs.calls.Refusals.{here, later, done, handed-on-first, call-passed-first}
+use Rattle.model.proofs.tables.Places.{within, bounded-within, valid-within}
+use Rattle.model.proofs.tables.Routing.{wf-count}
+use Rattle.model.proofs.calls.TableCalls.{length-elements, element-at}
+use Rattle.model.specs.cuts.Sides.{inside}
 
 pub no-pivot : (p a : List ℕ) → length p / 66 ≡ 0 → a ≡ recordAt p 0 → a ≡ recordAt p (length p / 66 - 1)
 no-pivot p a h e = let q : length p / 66 - 1 ≡ 0 = omega arith in rw q e

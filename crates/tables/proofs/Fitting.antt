@@ -8,15 +8,16 @@ use native.Mathlib.Omega.{arith}
 use borrow.Author.Tests.{eq-eqb, ne-eqb, le-leb, lt-leb, not-true, not-false}
 use lib.Dec.{eqb, leb}
 use lib.ListN.{length}
-use Rattle.model.specs.Key.{Key}
-use Rattle.model.specs.Order.{Element, key, lte, lt, passes}
-use Rattle.model.specs.Record.{recordSize, recordAt, element, elements}
-use Rattle.model.specs.Tables.{PivotTable, pivotAt, WFPivots, PivotInsertable}
+use Rattle.model.specs.keys.Key.{Key}
+use Rattle.model.specs.keys.Order.{Element, key, lte, lt, passes}
+use Rattle.model.specs.records.Record.{recordSize, element, elements}
+use Rattle.model.specs.inner.Places.{recordAt}
+use Rattle.model.specs.tables.Tables.{PivotTable, pivotAt, WFPivots, PivotInsertable}
 use Rattle.model.proofs.Lists.{le-or-lt}
-use Rattle.model.proofs.Order.{refuted}
-use Rattle.model.proofs.Insertable.{Gap, gap-insertable, insertable-gap}
-use Rattle.model.proofs.Routing.{wf-sorted, wf-count}
-use Rattle.model.proofs.TableBytes.{length-elements, element-at}
+use Rattle.model.proofs.keys.Order.{refuted}
+use Rattle.model.proofs.tables.Insertable.{Gap, gap-insertable, insertable-gap}
+use Rattle.model.proofs.tables.Routing.{wf-sorted, wf-count}
+use Rattle.model.proofs.calls.TableCalls.{length-elements, element-at}
 
 -- ---- beside one pivot
 

@@ -11,14 +11,15 @@ use lib.ListN.{length}
 use Rattle.model.specs.declared.Refusal.the-variants.{NoSuchSlot}
 use Rattle.model.specs.declared.Answer.{Answer}
 use Rattle.model.specs.declared.Answer.the-variants.{Value, Refused}
-use Rattle.model.specs.Order.{Element, key, max, isKey}
-use Rattle.model.specs.Record.{maxMark, lengthField, keyBytes, recordAt, element, elements}
-use Rattle.model.specs.Tables.{PivotTable, pivotAt, keyOf, GetKey}
-use Rattle.model.specs.Refusals.{_⇒_, first, answer, part}
-use Rattle.model.specs.TableCalls.{noKeyAt, pivotCauses, getKeyCauses}
-use Rattle.model.proofs.Causes.{here, later, value-done, passed, accepted, none-here, none-after}
-use Rattle.model.proofs.Prefix.{both}
-use Rattle.model.proofs.TableBytes.{length-elements, element-at}
+use Rattle.model.specs.keys.Order.{Element, key, max, isKey}
+use Rattle.model.specs.records.Record.{maxMark, lengthField, keyBytes, element, elements}
+use Rattle.model.specs.inner.Places.{recordAt}
+use Rattle.model.specs.tables.Tables.{PivotTable, pivotAt, keyOf, GetKey}
+use Rattle.model.specs.calls.Refusals.{_⇒_, first, answer, part}
+use Rattle.model.specs.calls.TableCalls.{noKeyAt, pivotCauses, getKeyCauses}
+use Rattle.model.proofs.calls.Refusals.{here, later, value-done, passed, accepted, none-here, none-after}
+use Rattle.model.proofs.keys.Key.{both}
+use Rattle.model.proofs.calls.TableCalls.{length-elements, element-at}
 
 module _ (p : List ℕ) (i : ℕ) where
   pub no-place : length p / 66 ≤ i → Refused NoSuchSlot ≡ answer ((noKeyAt (elements p) i ⇒ NoSuchSlot) ∷ []) (length (GetKey (elements p) i))

@@ -5,12 +5,14 @@ use Prim.Native.Nat.{ℕ, _+_, _-_, _≤_, _<_}
 use native.Mathlib.Omega.{arith}
 use lib.ListN.{length, take, drop, length-append}
 use borrow.Rule.Slice.PartMut.{putMid}
-use Rattle.model.specs.Record.{recordOf, clipped, encode, joined, encodeAll}
-use Rattle.model.specs.Order.{key, max}
-use Rattle.model.specs.Tables.{InitPivotTable}
-use Rattle.model.specs.Refusals.{over, into}
+use Rattle.model.specs.records.Record.{recordOf, encode, joined, encodeAll}
+use Rattle.model.specs.inner.Written.{clipped}
+use Rattle.model.specs.keys.Order.{key, max}
+use Rattle.model.specs.tables.Tables.{InitPivotTable}
+use Rattle.model.specs.calls.Refusals.{over}
+use Rattle.model.specs.inner.Written.{into}
 use Rattle.model.proofs.Lists.{written-on, into-over}
-use Rattle.model.proofs.Record.{length-record}
+use Rattle.model.proofs.records.Record.{length-record}
 
 -- one record, and in the rest the other
 pub both-written : (d v w : List ℕ) → 132 ≤ length d → v ≡ into (recordOf 0 (clipped [])) d

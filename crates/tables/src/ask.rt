@@ -10,13 +10,14 @@ ghost use mathlib.Core.List.{_∷_, []};
 ghost use Prim.Native.Nat.{_-_, _/_, _<_};
 ghost use lib.ListN.{length};
 ghost use Rattle.model.specs.declared.Refusal.the-variants.{NotBelow};
-ghost use Rattle.model.specs.Key.{tooLong};
-ghost use Rattle.model.specs.Order.{key, lt};
-ghost use Rattle.model.specs.Record.{recordSize, recordAt, element, elements};
-ghost use Rattle.model.specs.Tables.{WFPivots, ContainsAllKeys, ContainsRange};
-ghost use Rattle.model.specs.Refusals.{_⇒_, yesOrNo, decision};
-ghost use Rattle.model.specs.Calls.{notElement};
-ghost use Rattle.model.specs.TableCalls.{wfPivotsAnswer, wfEdgesAnswer, containsAllKeysAnswer, containsRangeAnswer};
+ghost use Rattle.model.specs.keys.Key.{tooLong};
+ghost use Rattle.model.specs.keys.Order.{key, lt};
+ghost use Rattle.model.specs.records.Record.{recordSize, element, elements};
+ghost use Rattle.model.specs.inner.Places.{recordAt};
+ghost use Rattle.model.specs.tables.Tables.{WFPivots, ContainsAllKeys, ContainsRange};
+ghost use Rattle.model.specs.calls.Refusals.{_⇒_, yesOrNo, decision};
+ghost use Rattle.model.specs.calls.KeyCalls.{notElement};
+ghost use Rattle.model.specs.calls.TableCalls.{wfPivotsAnswer, wfEdgesAnswer, containsAllKeysAnswer, containsRangeAnswer};
 
 pub fn say(yes: bool) -> Decided
     ensures { λ r. ⌜ r ≡ yesOrNo yes ⌝ }

@@ -10,12 +10,13 @@ ghost use mathlib.Core.Bool.{true, _||_};
 ghost use Prim.Native.Nat.{_-_, _/_};
 ghost use lib.Dec.{eqb, leb};
 ghost use lib.ListN.{length};
-ghost use Rattle.model.specs.Order.{key, lt};
-ghost use Rattle.model.specs.Record.{recordSize, recordAt, element, elements};
-ghost use Rattle.model.specs.Tables.{WFPivots, PivotInsertable};
-ghost use Rattle.model.specs.Refusals.{decision};
-ghost use Rattle.model.specs.TableCalls.{keyCauses, boundedKeyAnswer, validLeftCutOffKeyAnswer, pivotInsertableAnswer};
-ghost use Rattle.model.specs.Sides.{inside};
+ghost use Rattle.model.specs.keys.Order.{key, lt};
+ghost use Rattle.model.specs.records.Record.{recordSize, element, elements};
+ghost use Rattle.model.specs.inner.Places.{recordAt};
+ghost use Rattle.model.specs.tables.Tables.{WFPivots, PivotInsertable};
+ghost use Rattle.model.specs.calls.Refusals.{decision};
+ghost use Rattle.model.specs.calls.TableCalls.{keyCauses, boundedKeyAnswer, validLeftCutOffKeyAnswer, pivotInsertableAnswer};
+ghost use Rattle.model.specs.cuts.Sides.{inside};
 
 // Whether the first pivot passes for the key, and the last does not.
 fn within(pivots: &[u8], k: &[u8], strict: bool) -> bool

@@ -7,10 +7,10 @@ ghost use mathlib.Core.Bool.{true};
 ghost use mathlib.Core.List.{_∷_, []};
 ghost use lib.ListN.{length};
 ghost use Rattle.model.specs.declared.Refusal.the-variants.{NoSuchSlot};
-ghost use Rattle.model.specs.Record.{elements};
-ghost use Rattle.model.specs.Tables.{WFPivots, GetKey};
-ghost use Rattle.model.specs.Refusals.{_⇒_, answer};
-ghost use Rattle.model.specs.TableCalls.{noKeyAt, getKeyAnswer, getKeyPart};
+ghost use Rattle.model.specs.records.Record.{elements};
+ghost use Rattle.model.specs.tables.Tables.{WFPivots, GetKey};
+ghost use Rattle.model.specs.calls.Refusals.{_⇒_, answer};
+ghost use Rattle.model.specs.calls.TableCalls.{noKeyAt, getKeyAnswer, getKeyPart};
 
 // Cause 6; else the length of the key at the place.
 fn length_at(pivots: &[u8], place: usize) -> Answer

@@ -4,7 +4,7 @@ use model::MIN_PIVOTS;
 use model::RECORD_SIZE;
 use model::Refusal;
 ghost use mathlib.Core.Path.{_≡_};
-ghost use Rattle.model.specs.TableCalls.{initPivotTableAnswer, initPivotTableLeaves};
+ghost use Rattle.model.specs.calls.TableCalls.{initPivotTableAnswer, initPivotTableLeaves};
 
 // InitPivotTable: the pivots of the first table, the empty key and max, at the head of dest. Answers 2. Refuses 10.
 pub fn init_pivot_table(dest: &mut [u8]) -> Answer

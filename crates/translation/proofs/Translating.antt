@@ -14,19 +14,21 @@ use Rattle.model.specs.declared.Refusal.{Refusal}
 use Rattle.model.specs.declared.Answer.{Answer}
 use Rattle.model.specs.declared.Answer.the-variants as answers
 use Rattle.model.specs.declared.Routed.the-variants as routed
-use Rattle.model.specs.Key.{maxLen, IsPrefix, changePrefix}
-use Rattle.model.specs.Order.{key}
-use Rattle.model.specs.Record.{noEdge, edge, noEdgeMark, lengthField, keyBytes, element, edgeOf, recordAt, elements}
-use Rattle.model.specs.RangePrefix.{PivotLcp}
-use Rattle.model.specs.Tables.{pivotAt, BoundedKey, CutoffForRight}
-use Rattle.model.specs.Translation.{edgePair, ApplyPrefixSet, Translate, TranslateKey}
-use Rattle.model.specs.Refusals.{outcome, first, answer, leaves}
-use Rattle.model.specs.Calls.{sizeCauses, changePrefixCauses, changePrefixAnswer, changePrefixLeaves}
-use Rattle.model.specs.CutCalls.{edgeSlotCauses}
-use Rattle.model.proofs.ChangePrefix.{only-sizes}
-use Rattle.model.proofs.Prefix.{prefix-is-take, bytes-of}
-use Rattle.model.proofs.RangePrefix.{prefix-of-left}
-use Rattle.model.proofs.CutBytes.{cut-key, cut-left-key, cut-right-element, cut-old-edge, cut-edge-short, cut-begins}
+use Rattle.model.specs.keys.Key.{maxLen, IsPrefix, changePrefix}
+use Rattle.model.specs.keys.Order.{key}
+use Rattle.model.specs.records.Record.{noEdge, edge, noEdgeMark, lengthField, keyBytes, element, edgeOf, elements}
+use Rattle.model.specs.inner.Places.{recordAt}
+use Rattle.model.specs.ranges.RangePrefix.{PivotLcp}
+use Rattle.model.specs.tables.Tables.{pivotAt, BoundedKey, CutoffForRight}
+use Rattle.model.specs.translation.Translation.{edgePair, Translate, TranslateKey}
+use Rattle.model.specs.translation.PrefixSet.{ApplyPrefixSet}
+use Rattle.model.specs.calls.Refusals.{outcome, first, answer, leaves}
+use Rattle.model.specs.calls.KeyCalls.{sizeCauses, changePrefixCauses, changePrefixAnswer, changePrefixLeaves}
+use Rattle.model.specs.calls.TableCalls.{edgeSlotCauses}
+use Rattle.model.proofs.calls.KeyCalls.{only-sizes}
+use Rattle.model.proofs.keys.Key.{prefix-is-take, bytes-of}
+use Rattle.model.proofs.ranges.RangePrefix.{prefix-of-left}
+use Rattle.model.proofs.calls.CutCalls.{cut-key, cut-left-key, cut-right-element, cut-old-edge, cut-edge-short, cut-begins}
 use Rattle.translation.specs.Translated.{translated}
 
 module _ (p e k : List ℕ) (c : ℕ) (h : first (edgeSlotCauses p e k (BoundedKey (elements p) k)) ≡ none) (i : c ≡ CutoffForRight (elements p) k) where

@@ -5,12 +5,13 @@ ghost use mathlib.Core.Path.{_≡_};
 ghost use mathlib.Core.Bool.{false};
 ghost use mathlib.Core.Option.{none};
 ghost use lib.ListN.{length};
-ghost use Rattle.model.specs.Record.{elements};
-ghost use Rattle.model.specs.Tables.{BoundedKey};
-ghost use Rattle.model.specs.Sides.{cutoff};
-ghost use Rattle.model.specs.Refusals.{first, answer, leaves};
-ghost use Rattle.model.specs.Calls.{sizeCauses};
-ghost use Rattle.model.specs.CutCalls.{edgeSlotCauses, translateKeyAnswer, translateKeyLeaves};
+ghost use Rattle.model.specs.records.Record.{elements};
+ghost use Rattle.model.specs.tables.Tables.{BoundedKey};
+ghost use Rattle.model.specs.cuts.Sides.{cutoff};
+ghost use Rattle.model.specs.calls.Refusals.{first, answer, leaves};
+ghost use Rattle.model.specs.calls.KeyCalls.{sizeCauses};
+ghost use Rattle.model.specs.calls.TranslationCalls.{translateKeyAnswer, translateKeyLeaves};
+ghost use Rattle.model.specs.calls.TableCalls.{edgeSlotCauses};
 ghost use Rattle.translation.specs.Translated.{translated};
 
 // The key of slot c changed: its prefix, the prefix of the slot's range, becomes the slot's edge. Without an edge it is the key itself.

@@ -11,7 +11,7 @@ use mir.Syntax.{w64}
 use mir.Val.{Fits, SFits, toZ, ofZ}
 use mir.Facts.{toZ-ofZ, toZ-pos}
 use lib.ListN.{length, getD}
-use Rattle.model.specs.Key.{Key}
+use Rattle.model.specs.keys.Key.{Key}
 use Rattle.upper_bound.specs.Walk.{upToOther}
 
 -- the index with the bits i is that of the last of n bytes, and those after them are all FF

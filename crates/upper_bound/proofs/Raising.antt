@@ -14,15 +14,17 @@ use mir.Val.{Fits, toZ, ofZ}
 use mir.Facts.{toZ-ofZ}
 use lib.ListN.{length, take, getD, set, length-append}
 use lib.Seq.{take-suc, set-at, append-snoc, length-take-le}
-use Rattle.model.specs.Key.{Key, maxLen}
-use Rattle.model.specs.Order.{Element, key, max}
-use Rattle.model.specs.Record.{recordOf, clipped, encode}
-use Rattle.model.specs.UpperBound.{raisedAt, uncommonFrom, ShortestUncommonPrefix}
-use Rattle.model.specs.Refusals.{over, into}
-use Rattle.model.specs.Tables.{shortElement}
+use Rattle.model.specs.keys.Key.{Key, maxLen}
+use Rattle.model.specs.keys.Order.{Element, key, max}
+use Rattle.model.specs.records.Record.{recordOf, encode}
+use Rattle.model.specs.inner.Written.{clipped}
+use Rattle.model.specs.ranges.UpperBound.{raisedAt, uncommonFrom, ShortestUncommonPrefix}
+use Rattle.model.specs.calls.Refusals.{over}
+use Rattle.model.specs.inner.Written.{into}
+use Rattle.model.specs.tables.Tables.{shortElement}
 use Rattle.model.proofs.Lists.{two-more, clipped-all, into-over}
-use Rattle.model.proofs.Record.{length-encode}
-use Rattle.model.proofs.UpperBound.{upper-short}
+use Rattle.model.proofs.records.Record.{length-encode}
+use Rattle.model.proofs.ranges.UpperBound.{upper-short}
 use Rattle.upper_bound.specs.Walk.{upToOther}
 use Rattle.upper_bound.proofs.Down.{below-fits}
 

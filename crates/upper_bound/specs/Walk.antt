@@ -3,7 +3,7 @@ use mathlib.Core.Bool.{cond}
 use Prim.Native.Nat.{ℕ, zero, suc}
 use lib.Dec.{eqb}
 use lib.ListN.{getD}
-use Rattle.model.specs.Key.{Key}
+use Rattle.model.specs.keys.Key.{Key}
 
 -- of the first n bytes of p, those up to the last one that isn't FF
 unfoldable pub upToOther : Key → ℕ → ℕ

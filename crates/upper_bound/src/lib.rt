@@ -7,10 +7,10 @@ ghost use mathlib.Core.Path.{_≡_};
 ghost use Prim.Native.Nat.{_≤_, _<_};
 ghost use lib.IntN.{pos, predℤ};
 ghost use lib.ListN.{length, getD};
-ghost use Rattle.model.specs.Record.{encode};
-ghost use Rattle.model.specs.UpperBound.{raisedAt, ShortestUncommonPrefix};
-ghost use Rattle.model.specs.Refusals.{into};
-ghost use Rattle.model.specs.Calls.{uncommonPrefixAnswer, uncommonPrefixLeaves};
+ghost use Rattle.model.specs.records.Record.{encode};
+ghost use Rattle.model.specs.ranges.UpperBound.{raisedAt, ShortestUncommonPrefix};
+ghost use Rattle.model.specs.inner.Written.{into};
+ghost use Rattle.model.specs.calls.KeyCalls.{uncommonPrefixAnswer, uncommonPrefixLeaves};
 ghost use Rattle.upper_bound.specs.Walk.{upToOther};
 
 // The place of the last byte that isn't FF, or -1.

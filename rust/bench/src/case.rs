@@ -1,16 +1,9 @@
 //! A case: one call on inputs of one size, with its three sides.
 use crate::floor::floor;
+use crate::lent::{room, Dests, Slices};
 use crate::timing::{Passes, Timed};
 use std::hint::black_box;
 use std::rc::Rc;
-
-/// What a call is lent to read. A table is shared by the inputs that ask for different keys.
-pub type Slices<const S: usize> = [Rc<[u8]>; S];
-/// Where it writes.
-pub type Dests<const D: usize> = [Box<[u8]>; D];
-
-/// The longest list of a table, which is longer than any table.
-pub const ROOM: usize = 32_715;
 
 pub struct Case {
     pub call: &'static str,
@@ -27,10 +20,6 @@ pub struct Case {
 struct Input<const S: usize, const D: usize> {
     slices: Slices<S>,
     written: [usize; D],
-}
-
-fn room<const D: usize>() -> Dests<D> {
-    std::array::from_fn(|_| vec![0; ROOM].into())
 }
 
 fn passes<const S: usize, const D: usize>(

@@ -1,5 +1,5 @@
 //! The floor: what any program must do that looks at every byte it is lent and writes the result.
-use crate::case::{Dests, Slices, ROOM};
+use crate::lent::{Dests, Slices, ROOM};
 
 static SOURCE: [u8; ROOM] = [0x41; ROOM];
 

@@ -4,6 +4,7 @@ mod case;
 mod floor;
 mod inputs;
 mod key_calls;
+mod lent;
 mod placement;
 mod report;
 mod sides;

@@ -41,8 +41,8 @@ fn cases_of(random: &mut Xorshift, size: (usize, usize)) -> Vec<Case> {
         case!(size, &edges, wf_edges(p, e;), |()| 0, |_| []),
         case!(size, &routes, route(p, k;), |slot| slot, |_| []),
         case!(size, &asked, translate_key(p, e, k; dest), |len| len, |len| [len]),
-        case!(size, &asked, split_left(p, e, k; dp, de), |count| count, both),
-        case!(size, &asked, split_right(p, e, k; dp, de), |count| count, both),
+        case!(size, &asked, split_left(p, e, k; dest_pivots, dest_edges), |count| count, both),
+        case!(size, &asked, split_right(p, e, k; dest_pivots, dest_edges), |count| count, both),
         case!(size, &lists, list_table(input; dest), |len| len, |len| [len]),
     ]
 }

@@ -1,4 +1,5 @@
-//! A call in both implementations, and what is asked of it.
+//! A call in both implementations, and what it leaves.
+use crate::asked::{Asked, MOST_DESTS};
 use crate::lent::{is_as_before, Lent};
 use std::fmt;
 
@@ -26,40 +27,8 @@ pub struct Call {
     pub reference: fn(&Asked, Dests, &mut u64) -> u32,
 }
 
-pub const MOST_DESTS: usize = 2;
-
 /// The destinations of one case, to be written to; one that the call doesn't have is empty.
 pub type Dests<'a> = [&'a mut [u8]; MOST_DESTS];
-
-/// The arguments of one case; a call that has no place or destination doesn't look at it.
-#[derive(Clone, Copy)]
-pub struct Asked<'a> {
-    pub slices: &'a [&'a [u8]],
-    pub place: u64,
-    /// The destinations' lengths.
-    pub dests: [usize; MOST_DESTS],
-}
-
-impl<'a> Asked<'a> {
-    pub fn new(slices: &'a [&'a [u8]], place: u64, dest: usize) -> Self {
-        let dests = [dest, 0];
-        Asked {
-            slices,
-            place,
-            dests,
-        }
-    }
-
-    /// A case without a place, with destinations of these lengths.
-    pub fn with_dests(slices: &'a [&'a [u8]], dests: [usize; MOST_DESTS]) -> Self {
-        let place = 0;
-        Asked {
-            slices,
-            place,
-            dests,
-        }
-    }
-}
 
 /// What a call returned and left.
 pub struct Seen<'a> {

@@ -8,9 +8,9 @@ mod two_orders;
 mod wrapper;
 
 use crate::call::Call;
-use crate::group::Group;
+use crate::group::{test, Group, Test};
+use crate::lengths;
 use crate::tables::faults;
-use crate::{lengths, test, Test};
 
 pub fn tests() -> Vec<Test> {
     let mut tests = vec![

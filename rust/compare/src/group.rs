@@ -1,5 +1,6 @@
 //! A group of cases: one test.
-use crate::call::{Asked, Call, Seen, MOST_DESTS};
+use crate::asked::{Asked, MOST_DESTS};
+use crate::call::{Call, Seen};
 use crate::lent::{before, number_before, Lent};
 
 /// What is written down by hand for a case.
@@ -98,6 +99,19 @@ impl Group {
             Some(text) => println!("FAILED {name}: {text}"),
         }
         self.failure.is_none() && self.cases > 0
+    }
+}
+
+/// A group's name, and what runs its cases.
+pub struct Test {
+    pub name: String,
+    pub body: Box<dyn Fn(&mut Group)>,
+}
+
+pub fn test(name: impl Into<String>, body: impl Fn(&mut Group) + 'static) -> Test {
+    Test {
+        name: name.into(),
+        body: Box::new(body),
     }
 }
 

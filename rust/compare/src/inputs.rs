@@ -72,3 +72,24 @@ impl Xorshift {
         self.below(n) == 0
     }
 }
+
+pub fn random_bytes(random: &mut Xorshift, len: usize) -> Vec<u8> {
+    (0..len).map(|_| random.next() as u8).collect()
+}
+
+/// A key near `base`: cut, one byte one more or less, or drawn out.
+pub fn near(random: &mut Xorshift, base: &[u8]) -> Vec<u8> {
+    let cut = random.below(base.len() + 1);
+    let mut key = base[..if random.one_in(2) { base.len() } else { cut }].to_vec();
+    if !key.is_empty() && random.one_in(3) {
+        let place = random.below(key.len());
+        let change = if random.one_in(4) { 0xFF } else { 1 };
+        key[place] = key[place].wrapping_add(change);
+        key.truncate(if random.one_in(2) { place + 1 } else { 67 });
+    }
+    if random.one_in(4) {
+        let more = random.below(4);
+        key.extend(random_bytes(random, more));
+    }
+    key
+}

@@ -1,5 +1,6 @@
 //! The calls on single keys, in the archive and in the reference.
-use crate::call::{Asked, Call, Kind};
+use crate::asked::Asked;
+use crate::call::{Call, Kind};
 use crate::lent::Lent;
 use joistdenim::raw;
 use reference::Refusal;

@@ -1,11 +1,12 @@
 //! One group for each call: slices of every length from 0 to 140 in each argument and in a lone
 //! destination, beside good and bad slices in the others. So every order of causes over the
 //! arguments comes up.
-use crate::call::{Asked, Call, Kind, MOST_DESTS};
+use crate::asked::{Asked, MOST_DESTS};
+use crate::call::{Call, Kind};
 use crate::group::Group;
 use crate::inputs::{counted, entry, field_record, record, MAX, NO_EDGE};
-use crate::list::inputs::usual_inputs;
-use crate::tables::inputs::{usual_edges, usual_pivots};
+use crate::list_inputs::usual_inputs;
+use crate::table_inputs::{usual_edges, usual_pivots};
 
 const LONGEST: usize = 140;
 

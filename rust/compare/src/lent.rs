@@ -1,6 +1,6 @@
 //! What is lent to one call of the archive, with guard bytes around each slice and around the
 //! number behind the pointer.
-use crate::call::{Asked, MOST_DESTS};
+use crate::asked::{Asked, MOST_DESTS};
 use std::sync::OnceLock;
 
 const GUARD: usize = 16;

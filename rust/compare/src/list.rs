@@ -1,12 +1,13 @@
 //! Groups for the list of a table.
 mod by_hand;
 mod calls;
-pub mod inputs;
+mod dests;
 mod random;
 mod small;
 mod wrapper;
 
-use crate::{lengths, test, Test};
+use crate::group::{test, Test};
+use crate::lengths;
 use calls::LIST_TABLE;
 
 pub fn tests() -> Vec<Test> {

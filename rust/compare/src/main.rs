@@ -1,5 +1,6 @@
 //! Runs the archive and the reference on the same cases. A line for each group of cases, then
 //! 'N passed, M failed' over the groups; the status is 1 where one failed.
+mod asked;
 mod call;
 mod changes;
 mod cuts;
@@ -9,30 +10,20 @@ mod key_calls;
 mod lengths;
 mod lent;
 mod list;
+mod list_inputs;
 mod malformed;
 mod orders;
 mod random;
 mod range_prefixes;
 mod rows;
+mod table_inputs;
 mod tables;
 mod upper_bounds;
 mod wrapper;
 
-use group::Group;
+use group::{test, Group, Test};
 use std::panic::{catch_unwind, AssertUnwindSafe};
 use std::process::ExitCode;
-
-struct Test {
-    name: String,
-    body: Box<dyn Fn(&mut Group)>,
-}
-
-fn test(name: impl Into<String>, body: impl Fn(&mut Group) + 'static) -> Test {
-    Test {
-        name: name.into(),
-        body: Box::new(body),
-    }
-}
 
 fn tests_by_hand() -> Vec<Test> {
     vec![

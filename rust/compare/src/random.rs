@@ -1,16 +1,15 @@
 //! One group for each call: random slices, the same in every run. The slices of a case come from
 //! one random key, so that they often begin alike; some are changed or are random bytes alone.
-use crate::call::{Asked, Call, Kind, MOST_DESTS};
+use crate::asked::{Asked, MOST_DESTS};
+use crate::call::{Call, Kind};
 use crate::group::Group;
-use crate::inputs::{entry, field_record, record, Xorshift, BYTES, MAX, NO_EDGE};
-use crate::list::inputs::joined;
-use crate::tables::inputs::{random_edges, random_pivots};
+use crate::inputs::{
+    entry, field_record, near, random_bytes, record, Xorshift, BYTES, MAX, NO_EDGE,
+};
+use crate::list_inputs::joined;
+use crate::table_inputs::{random_edges, random_pivots};
 
 const SEED: u64 = 20_250_627;
-
-pub fn random_bytes(random: &mut Xorshift, len: usize) -> Vec<u8> {
-    (0..len).map(|_| random.next() as u8).collect()
-}
 
 /// The key that the slices of one case come from: few or many kinds of bytes, runs of FF.
 fn base(random: &mut Xorshift) -> Vec<u8> {
@@ -21,23 +20,6 @@ fn base(random: &mut Xorshift) -> Vec<u8> {
         1 => vec![0xFF; len],
         _ => (0..len).map(|_| BYTES[random.below(4)]).collect(),
     }
-}
-
-/// A key near the base: cut, one byte one more or less, or drawn out.
-pub fn near(random: &mut Xorshift, base: &[u8]) -> Vec<u8> {
-    let cut = random.below(base.len() + 1);
-    let mut key = base[..if random.one_in(2) { base.len() } else { cut }].to_vec();
-    if !key.is_empty() && random.one_in(3) {
-        let place = random.below(key.len());
-        let change = if random.one_in(4) { 0xFF } else { 1 };
-        key[place] = key[place].wrapping_add(change);
-        key.truncate(if random.one_in(2) { place + 1 } else { 67 });
-    }
-    if random.one_in(4) {
-        let more = random.below(4);
-        key.extend(random_bytes(random, more));
-    }
-    key
 }
 
 fn random_record(random: &mut Xorshift, base: &[u8]) -> Vec<u8> {

@@ -1,5 +1,6 @@
 //! Cases with their results written down by hand, from document 01.
-use crate::call::{Asked, Call};
+use crate::asked::Asked;
+use crate::call::Call;
 use crate::group::{Group, Wanted};
 use crate::inputs::{field_record, record, Record, MAX, NO_EDGE};
 use crate::key_calls::{

@@ -2,11 +2,11 @@
 mod by_hand;
 pub mod calls;
 pub mod faults;
-pub mod inputs;
 mod small;
 mod wrapper;
 
-use crate::{lengths, random, test, Test};
+use crate::group::{test, Test};
+use crate::{lengths, random};
 
 pub fn tests() -> Vec<Test> {
     let mut tests = vec![

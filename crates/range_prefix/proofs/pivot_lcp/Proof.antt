@@ -1,5 +1,5 @@
 -- `range_prefix::pivot_lcp` meets its contract.
-use Rattle.model.proofs.Causes.{answering}
+use Rattle.model.proofs.calls.Refusals.{answering}
 use borrow.Author.Needs.{needs}
 use Rattle.range_prefix.proofs.pivot_lcp.Statement.{statement}
 use Rattle.range_prefix.proofs.pivot_lcp.Tie as tie

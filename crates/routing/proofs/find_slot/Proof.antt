@@ -1,6 +1,6 @@
 -- `routing::find_slot` meets its contract.
-use Rattle.model.proofs.Causes.{handing-on}
-use Rattle.model.proofs.TableBytes.{checked-wf}
+use Rattle.model.proofs.calls.Refusals.{handing-on}
+use Rattle.model.proofs.calls.TableCalls.{checked-wf}
 use borrow.Author.Needs.{needs}
 use Rattle.routing.proofs.find_slot.Statement.{statement}
 use Rattle.routing.proofs.find_slot.Tie as tie

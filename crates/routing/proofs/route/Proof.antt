@@ -1,5 +1,5 @@
 -- `routing::route` meets its contract.
-use Rattle.model.specs.Tables.{CutoffForRight}
+use Rattle.model.specs.tables.Tables.{CutoffForRight}
 use borrow.Author.Needs.{needs}
 use Rattle.routing.proofs.route.Statement.{statement}
 use Rattle.routing.proofs.route.Tie as tie

@@ -1,5 +1,5 @@
 -- `routing::slot_answer` meets its contract.
-use Rattle.model.proofs.Causes.{slot-value, slot-refusal}
+use Rattle.model.proofs.calls.Refusals.{slot-value, slot-refusal}
 use borrow.Author.Needs.{needs}
 use Rattle.routing.proofs.slot_answer.Statement.{statement}
 use Rattle.routing.proofs.slot_answer.Tie as tie

@@ -1,6 +1,6 @@
 -- `routing::slot_with_edges` meets its contract.
-use Rattle.model.proofs.Causes.{handing-on}
-use Rattle.model.proofs.TableBytes.{table-checked-wf}
+use Rattle.model.proofs.calls.Refusals.{handing-on}
+use Rattle.model.proofs.calls.TableCalls.{table-checked-wf}
 use borrow.Author.Needs.{needs}
 use Rattle.routing.proofs.slot_with_edges.Statement.{statement}
 use Rattle.routing.proofs.slot_with_edges.Tie as tie

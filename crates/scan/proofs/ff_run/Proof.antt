@@ -1,5 +1,5 @@
 -- `scan::ff_run` meets its contract.
-use Rattle.model.specs.RangePrefix.{lcpright}
+use Rattle.model.specs.ranges.RangePrefix.{lcpright}
 use lib.ListN.{length, drop}
 use mathlib.Core.Path.{_≡_}
 use Prim.Native.Nat.{ℕ, _+_, _-_, _≤_}

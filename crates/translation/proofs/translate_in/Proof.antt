@@ -1,6 +1,6 @@
 -- `translation::translate_in` meets its contract.
 use Rattle.model.proofs.Lists.{part-counts}
-use Rattle.model.proofs.CutBytes.{cut-next-fits}
+use Rattle.model.proofs.calls.CutCalls.{cut-next-fits}
 use Rattle.translation.proofs.Translating.{kept-answer, kept-written, changed-answer, changed-written}
 use borrow.Author.Needs.{needs}
 use Rattle.translation.proofs.translate_in.Statement.{statement}

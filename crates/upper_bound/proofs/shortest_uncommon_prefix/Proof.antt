@@ -1,5 +1,5 @@
 -- `upper_bound::shortest_uncommon_prefix` meets its contract.
-use Rattle.model.proofs.Causes.{answering}
+use Rattle.model.proofs.calls.Refusals.{answering}
 use Rattle.upper_bound.proofs.Raising.{upper-written}
 use borrow.Author.Needs.{needs}
 use Rattle.upper_bound.proofs.shortest_uncommon_prefix.Statement.{statement}

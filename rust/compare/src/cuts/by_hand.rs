@@ -1,9 +1,10 @@
 //! Cases with their results written down by hand, from document 01.
 use super::calls::{CALLS, SPLIT_LEFT, SPLIT_RIGHT, TRANSLATE_KEY};
-use crate::call::{Asked, Call};
+use crate::asked::Asked;
+use crate::call::Call;
 use crate::group::{Group, Wanted};
 use crate::inputs::{field_record, record, MAX, NO_EDGE};
-use crate::tables::inputs::{edges_of_t, pivots_of_t, table, with};
+use crate::table_inputs::{edges_of_t, pivots_of_t, table, with};
 use Wanted::{Answer, Answers, Refusal};
 
 const ROOM: [usize; 2] = [300, 200];

@@ -1,8 +1,8 @@
 //! Tables with edges, keys near their pivots, and destinations near what is written.
-use crate::call::{Asked, Call, MOST_DESTS};
-use crate::inputs::{field_record, record, Xorshift, MAX, NO_EDGE};
-use crate::random::random_bytes;
-use crate::tables::inputs::with;
+use crate::asked::{Asked, MOST_DESTS};
+use crate::call::Call;
+use crate::inputs::{field_record, random_bytes, record, Xorshift, MAX, NO_EDGE};
+use crate::table_inputs::with;
 use reference::{range_prefix, Element};
 
 const BYTES: [u8; 5] = [0x00, 0x01, 0x41, 0xFE, 0xFF];

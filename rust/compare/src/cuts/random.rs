@@ -1,7 +1,8 @@
 //! Random tables, well formed and with one to three faults, the same in every run; keys near
 //! their pivots, and destinations around what is written.
 use super::inputs::{dests_around, good_table, key_near, spoil};
-use crate::call::{Asked, Call};
+use crate::asked::Asked;
+use crate::call::Call;
 use crate::group::Group;
 use crate::inputs::Xorshift;
 

@@ -1,10 +1,11 @@
 //! All small tables with each sort of edge in each slot, and all small keys; and destinations of
 //! every length.
 use super::inputs::{dests_around, edge_record, keys_after, Table};
-use crate::call::{Asked, Call};
+use crate::asked::Asked;
+use crate::call::Call;
 use crate::group::Group;
 use crate::inputs::{field_record, record, MAX};
-use crate::tables::inputs::{absent, edges_of_t, pivots_of_t, rising};
+use crate::table_inputs::{absent, edges_of_t, pivots_of_t, rising};
 
 /// What the keys of the small tables begin with: nothing, so that few slots have a prefix; or
 /// FF, so that all have one.

@@ -3,7 +3,7 @@ use super::calls::{SPLIT_LEFT, SPLIT_RIGHT, TRANSLATE_KEY};
 use super::inputs::{dests_around, good_table, key_near};
 use crate::group::Group;
 use crate::inputs::Xorshift;
-use crate::tables::inputs::{usual_edges, usual_pivots};
+use crate::table_inputs::{usual_edges, usual_pivots};
 use crate::wrapper::{into, same};
 
 const SEED: u64 = 20_280_627;
@@ -19,8 +19,12 @@ fn into_two<R>(dests: [usize; 2], call: impl Fn(&mut [u8], &mut [u8]) -> R) -> (
 macro_rules! both {
     ($group:ident, $slices:ident, $dests:ident, $call:ident) => {{
         let [p, e, k] = $slices;
-        let (got, left) = into_two($dests, |dp, de| joistdenim::$call(p, e, k, dp, de));
-        let (wanted, right) = into_two($dests, |dp, de| reference::$call(p, e, k, dp, de));
+        let (got, left) = into_two($dests, |dest_pivots, dest_edges| {
+            joistdenim::$call(p, e, k, dest_pivots, dest_edges)
+        });
+        let (wanted, right) = into_two($dests, |dest_pivots, dest_edges| {
+            reference::$call(p, e, k, dest_pivots, dest_edges)
+        });
         same($group, stringify!($call), &$slices, got, wanted);
         same($group, stringify!($call), &$slices, Ok(left), Ok(right));
     }};

@@ -1,10 +1,11 @@
 //! Lists written down by hand, from document 01.
 use super::calls::LIST_TABLE;
-use super::inputs::{counted_as, input_of_t, joined, ROOM};
-use crate::call::Asked;
+use super::dests::ROOM;
+use crate::asked::Asked;
 use crate::group::{Group, Wanted};
 use crate::inputs::{field_record, record, MAX, NO_EDGE};
-use crate::tables::inputs::{absent, edges_of_t, pivots_of_t, rising, table, with};
+use crate::list_inputs::{counted_as, input_of_t, joined};
+use crate::table_inputs::{absent, edges_of_t, pivots_of_t, rising, table, with};
 
 const LIST_OF_T: &str =
     "slot\tleft\tright\tshared\tedge\n0\t4130\t4135\t41\t43\n1\t4135\t42\t41\t-\n";

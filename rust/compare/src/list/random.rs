@@ -1,9 +1,10 @@
 //! Random tables, well formed and with faults, the same in every run; whole, cut short,
 //! lengthened and with bytes changed.
-use super::inputs::{around, joined};
+use super::dests::around;
 use crate::cuts::inputs::{good_table, spoil};
 use crate::group::Group;
 use crate::inputs::Xorshift;
+use crate::list_inputs::joined;
 
 const SEED: u64 = 20_290_627;
 

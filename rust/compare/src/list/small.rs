@@ -1,9 +1,10 @@
 //! All small tables with each sort of edge in each slot; and T and the largest table with every
 //! length and every count.
-use super::inputs::{around, counted_as, joined};
+use super::dests::around;
 use crate::cuts::small::{each_edges, tables, SHARED};
 use crate::group::Group;
-use crate::tables::inputs::{absent, edges_of_t, pivots_of_t, rising};
+use crate::list_inputs::{counted_as, joined};
+use crate::table_inputs::{absent, edges_of_t, pivots_of_t, rising};
 
 /// Some slots have an edge over an empty prefix: 4.
 pub fn all_edges(group: &mut Group) {

@@ -1,8 +1,9 @@
 //! The safe wrapper's list against the reference.
-use super::inputs::{dests_around, joined, usual_inputs};
+use super::dests::dests_around;
 use crate::cuts::inputs::good_table;
 use crate::group::Group;
 use crate::inputs::Xorshift;
+use crate::list_inputs::{joined, usual_inputs};
 use crate::wrapper::{into, same};
 
 const SEED: u64 = 20_300_627;

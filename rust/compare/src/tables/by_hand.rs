@@ -1,9 +1,10 @@
 //! Cases with their results written down by hand, from document 01.
 use super::calls::*;
-use super::inputs::{absent, edges_of_t, pivots_of_t, rising, table, with};
-use crate::call::{Asked, Call};
+use crate::asked::Asked;
+use crate::call::Call;
 use crate::group::{Group, Wanted};
 use crate::inputs::{field_record, record, MAX, NO_EDGE};
+use crate::table_inputs::{absent, edges_of_t, pivots_of_t, rising, table, with};
 use Wanted::{Answer, Refusal};
 
 fn case(group: &mut Group, call: &Call, slices: &[&[u8]], wanted: Wanted) {

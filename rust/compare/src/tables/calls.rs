@@ -1,5 +1,6 @@
 //! The calls on tables, in the archive and in the reference.
-use crate::call::{Asked, Call, Dests, Kind};
+use crate::asked::Asked;
+use crate::call::{Call, Dests, Kind};
 use crate::key_calls::tell;
 use crate::lent::Lent;
 use joistdenim::raw;

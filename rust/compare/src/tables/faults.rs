@@ -1,10 +1,11 @@
 //! Tables with one fault: a wrong count, and at each place a wrong mark, a malformed record, the
 //! pivot before it again, or a pivot that falls.
-use super::inputs::{absent, rising, table, with};
-use crate::call::{Asked, Call, Kind, MOST_DESTS};
+use crate::asked::{Asked, MOST_DESTS};
+use crate::call::{Call, Kind};
 use crate::group::Group;
 use crate::inputs::{field_record, record, MAX, NO_EDGE};
 use crate::lengths::{choices, usual};
+use crate::table_inputs::{absent, rising, table, with};
 
 /// These pivots with good and bad slices for the other arguments: keys inside and outside, and
 /// edges of each count near the right one.

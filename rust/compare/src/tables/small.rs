@@ -1,9 +1,10 @@
 //! All small tables with all small keys, and larger tables with all keys of up to four bytes.
 use super::calls::{CONTAINS_RANGE, INIT_PIVOT_TABLE, WF_EDGES};
-use super::inputs::with;
-use crate::call::{Asked, Call};
+use crate::asked::Asked;
+use crate::call::Call;
 use crate::group::Group;
 use crate::inputs::{field_record, record, small_keys, Record, Xorshift, MAX, NO_EDGE};
+use crate::table_inputs::with;
 
 /// Every table of this many pivots over keys of up to `longest` bytes, rising or not, the last
 /// pivot also max.

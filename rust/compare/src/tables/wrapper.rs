@@ -1,7 +1,7 @@
 //! The safe wrapper's calls on tables against the reference.
-use super::inputs::{usual_edges, usual_pivots};
 use crate::group::Group;
 use crate::inputs::{counted, field_record, record, MAX};
+use crate::table_inputs::{usual_edges, usual_pivots};
 use crate::wrapper::{into, same};
 
 /// One call of the wrapper and of the reference.

@@ -1,6 +1,6 @@
 -- `cuts::slot_edge` meets its contract.
 use Rattle.model.proofs.Lists.{part-counts}
-use Rattle.model.proofs.CutBytes.{cut-next-fits}
+use Rattle.model.proofs.calls.CutCalls.{cut-next-fits}
 use Rattle.cuts.proofs.Slots.{new-right-short, edge-short, new-left-short, new-left, new-right, grows, slot-answer, slot-made}
 use borrow.Author.Needs.{needs}
 use Rattle.cuts.proofs.edge.slot_edge.Statement.{statement}

@@ -1,5 +1,5 @@
 -- `cuts::cut` meets its contract.
-use Rattle.model.proofs.Causes.{slot-accepted, slot-is, slot-handing-on}
+use Rattle.model.proofs.calls.Refusals.{slot-accepted, slot-is, slot-handing-on}
 use borrow.Author.Needs.{needs}
 use Rattle.cuts.proofs.split.cut.Statement.{statement}
 use Rattle.cuts.proofs.split.cut.Tie as tie

@@ -1,6 +1,6 @@
 -- `cuts::write_at` meets its contract.
 use mathlib.Core.Path.{refl}
-use Rattle.model.proofs.CutBytes.{cut-next-fits}
+use Rattle.model.proofs.calls.CutCalls.{cut-next-fits}
 use Rattle.cuts.proofs.Writes.{pivots-kept, slot-small, key-fits, edges-kept, no-room-pivots, no-room-edges, cut-answered, pivots-written, edges-written}
 use borrow.Author.Needs.{needs}
 use Rattle.cuts.proofs.split.write_at.Statement.{statement}

@@ -1,5 +1,5 @@
 -- `keys::change_prefix` meets its contract.
-use Rattle.model.proofs.Causes.{answering}
+use Rattle.model.proofs.calls.Refusals.{answering}
 use Rattle.keys.proofs.Changing.{changing, prefix-inside}
 use borrow.Author.Needs.{needs}
 use Rattle.keys.proofs.change.change_prefix.Statement.{statement}

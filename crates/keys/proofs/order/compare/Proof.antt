@@ -1,5 +1,5 @@
 -- `keys::compare` meets its contract.
-use Rattle.model.proofs.Causes.{answering}
+use Rattle.model.proofs.calls.Refusals.{answering}
 use Rattle.keys.proofs.Elements.{passed-on}
 use borrow.Author.Needs.{needs}
 use Rattle.keys.proofs.order.compare.Statement.{statement}

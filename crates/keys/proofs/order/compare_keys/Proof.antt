@@ -1,5 +1,5 @@
 -- `keys::compare_keys` meets its contract.
-use Rattle.model.proofs.CommonRun.{cmp-equal, cmp-shorter, cmp-longer, cmp-below, cmp-above}
+use Rattle.model.proofs.keys.CommonRun.{cmp-equal, cmp-shorter, cmp-longer, cmp-below, cmp-above}
 use borrow.Author.Needs.{needs}
 use Rattle.keys.proofs.order.compare_keys.Statement.{statement}
 use Rattle.keys.proofs.order.compare_keys.Tie as tie

@@ -1,5 +1,5 @@
 -- `keys::entry_key_part` meets its contract.
-use Rattle.model.proofs.Causes.{answering}
+use Rattle.model.proofs.calls.Refusals.{answering}
 use Rattle.keys.proofs.KeyOf.{entry-room, entry-part}
 use borrow.Author.Needs.{needs}
 use Rattle.keys.proofs.read.entry_key_part.Statement.{statement}

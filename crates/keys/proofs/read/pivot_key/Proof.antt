@@ -1,5 +1,5 @@
 -- `keys::pivot_key` meets its contract.
-use Rattle.model.proofs.Causes.{answering}
+use Rattle.model.proofs.calls.Refusals.{answering}
 use Rattle.keys.proofs.KeyOf.{key-cases}
 use borrow.Author.Needs.{needs}
 use Rattle.keys.proofs.read.pivot_key.Statement.{statement}

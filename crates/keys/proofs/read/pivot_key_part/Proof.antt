@@ -1,5 +1,5 @@
 -- `keys::pivot_key_part` meets its contract.
-use Rattle.model.proofs.Causes.{handing-on}
+use Rattle.model.proofs.calls.Refusals.{handing-on}
 use Rattle.keys.proofs.KeyOf.{end-fits, end-inside, key-fills}
 use borrow.Author.Needs.{needs}
 use Rattle.keys.proofs.read.pivot_key_part.Statement.{statement}

@@ -3,7 +3,7 @@ use mathlib.Core.Path.{_≡_, refl}
 use mathlib.Core.List.{_++_}
 use Prim.Native.Nat.{_-_, _≤_}
 use lib.ListN.{length, take, drop}
-use Rattle.model.specs.ShelfList.{hex}
+use Rattle.model.specs.list.ShelfList.{hex}
 use Rattle.records.proofs.Writing.{set-kept}
 use borrow.Author.Needs.{needs}
 use Rattle.listing.proofs.Digits.{hex-length, hex-room, hex-turn, hex-end}

@@ -2,7 +2,7 @@
 use mathlib.Core.Path.{_≡_}
 use Prim.Native.Nat.{_*_, _-_, _≤_}
 use lib.ListN.{length}
-use Rattle.model.specs.Refusals.{into}
+use Rattle.model.specs.inner.Written.{into}
 use Rattle.listing.specs.Text.{linesTo}
 use borrow.Author.Needs.{needs}
 use Rattle.listing.proofs.SlotLines.{lines-none, lines-none-written, lines-length, lines-written, lines-end-length, lines-end-written}

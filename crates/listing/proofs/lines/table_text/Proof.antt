@@ -1,5 +1,5 @@
 -- `listing::lines::table_text` meets its contract.
-use Rattle.model.specs.ShelfList.{header}
+use Rattle.model.specs.list.ShelfList.{header}
 use Rattle.listing.proofs.Texts.{both-length, both-written}
 use borrow.Author.Needs.{needs}
 use Rattle.listing.proofs.lines.table_text.Statement.{statement}

@@ -1,5 +1,5 @@
 -- `scan::equal_words` meets its contract.
-use Rattle.model.specs.Key.{commonRun}
+use Rattle.model.specs.keys.Key.{commonRun}
 use lib.ListN.{length, drop}
 use mathlib.Core.Path.{_≡_, _∙_}
 use Prim.Native.Nat.{ℕ, _+_, _-_, _≤_}

@@ -1,5 +1,5 @@
 -- `scan::zero_words` meets its contract.
-use Rattle.model.specs.Record.{allZero}
+use Rattle.model.specs.records.Record.{allZero}
 use lib.ListN.{length, drop}
 use mathlib.Core.Path.{_≡_, _∙_}
 use Prim.Native.Nat.{ℕ, _-_, _≤_}

@@ -1,6 +1,6 @@
 -- `table_checks::edges_read` meets its contract.
-use Rattle.model.specs.TableCalls.{edgesRead}
-use Rattle.model.specs.Record.{records}
+use Rattle.model.specs.calls.TableCalls.{edgesRead}
+use Rattle.model.specs.records.Record.{records}
 use lib.ListN.{drop}
 use mathlib.Core.Path.{_≡_}
 use Prim.Native.Nat.{_-_}

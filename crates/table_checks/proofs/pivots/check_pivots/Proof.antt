@@ -1,6 +1,6 @@
 -- `table_checks::check_pivots` meets its contract.
-use Rattle.model.specs.TableCalls.{pivotCauses}
-use Rattle.model.proofs.Causes.{answering}
+use Rattle.model.specs.calls.TableCalls.{pivotCauses}
+use Rattle.model.proofs.calls.Refusals.{answering}
 use Rattle.table_checks.proofs.PivotPass.{alone, counted}
 use borrow.Author.Needs.{needs}
 use Rattle.table_checks.proofs.pivots.check_pivots.Statement.{statement}

@@ -1,6 +1,6 @@
 -- `tables::contains_all_keys` meets its contract.
-use Rattle.model.proofs.Causes.{handing-on}
-use Rattle.model.proofs.TableBytes.{checked-wf}
+use Rattle.model.proofs.calls.Refusals.{handing-on}
+use Rattle.model.proofs.calls.TableCalls.{checked-wf}
 use Rattle.tables.proofs.Ends.{said}
 use borrow.Author.Needs.{needs}
 use Rattle.tables.proofs.ask.contains_all_keys.Statement.{statement}

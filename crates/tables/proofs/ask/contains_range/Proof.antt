@@ -1,5 +1,5 @@
 -- `tables::contains_range` meets its contract.
-use Rattle.model.proofs.TableBytes.{checked-wf}
+use Rattle.model.proofs.calls.TableCalls.{checked-wf}
 use Rattle.tables.proofs.Ends.{range-refused, range-asked}
 use borrow.Author.Needs.{needs}
 use Rattle.tables.proofs.ask.contains_range.Statement.{statement}

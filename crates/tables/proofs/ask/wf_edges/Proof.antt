@@ -1,5 +1,5 @@
 -- `tables::wf_edges` meets its contract.
-use Rattle.model.proofs.Causes.{handing-on}
+use Rattle.model.proofs.calls.Refusals.{handing-on}
 use borrow.Author.Needs.{needs}
 use Rattle.tables.proofs.ask.wf_edges.Statement.{statement}
 use Rattle.tables.proofs.ask.wf_edges.Tie as tie

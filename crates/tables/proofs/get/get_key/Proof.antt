@@ -1,6 +1,6 @@
 -- `tables::get_key` meets its contract.
-use Rattle.model.proofs.Causes.{handing-on}
-use Rattle.model.proofs.TableBytes.{checked-wf}
+use Rattle.model.proofs.calls.Refusals.{handing-on}
+use Rattle.model.proofs.calls.TableCalls.{checked-wf}
 use borrow.Author.Needs.{needs}
 use Rattle.tables.proofs.get.get_key.Statement.{statement}
 use Rattle.tables.proofs.get.get_key.Tie as tie

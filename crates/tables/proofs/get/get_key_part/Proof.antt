@@ -1,5 +1,5 @@
 -- `tables::get_key_part` meets its contract.
-use Rattle.model.proofs.Causes.{handing-on}
+use Rattle.model.proofs.calls.Refusals.{handing-on}
 use Rattle.tables.proofs.Getting.{part-there}
 use borrow.Author.Needs.{needs}
 use Rattle.tables.proofs.get.get_key_part.Statement.{statement}

@@ -1,5 +1,5 @@
 -- `tables::init_pivot_table` meets its contract.
-use Rattle.model.proofs.Causes.{answering}
+use Rattle.model.proofs.calls.Refusals.{answering}
 use Rattle.tables.proofs.Starting.{both-written}
 use borrow.Author.Needs.{needs}
 use Rattle.tables.proofs.init.init_pivot_table.Statement.{statement}

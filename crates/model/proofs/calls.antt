@@ -1,0 +1,6 @@
+pub mod Refusals
+pub mod TableCalls
+pub mod KeyCalls
+pub mod CutCalls
+pub mod WrittenTables
+pub mod Alike

@@ -1,0 +1,35 @@
+-- When two tables translate a key alike, answer and bytes.
+use mathlib.Core.Path.{_≡_, refl, sym, _∙_}
+use mathlib.Core.Bool.{Bool, true, false, cond, not}
+use mathlib.Core.List.{List, [], _∷_, _++_}
+use mathlib.Core.Option.{none, some}
+use Prim.Native.Nat.{ℕ}
+use Rattle.model.specs.declared.Refusal.the-variants.{Malformed, OutOfRange}
+use Rattle.model.specs.keys.Key.{Key, tooLong}
+use Rattle.model.specs.records.Record.{elements, edges}
+use Rattle.model.specs.tables.Tables.{BoundedKey}
+use Rattle.model.specs.translation.Translation.{TranslateKey}
+use Rattle.model.specs.calls.Refusals.{_⇒_, outcome, first}
+use Rattle.model.specs.calls.TableCalls.{tableCauses}
+use Rattle.model.specs.calls.TableCalls.{edgeSlotCauses}
+use Rattle.model.specs.cuts.TwoOrders.{TranslatedAlike}
+use Rattle.model.proofs.calls.Refusals.{refused-first, after, followed}
+use Rattle.model.proofs.calls.TableCalls.{wrong-first}
+
+-- of a table without causes 1 to 4 and a key inside the first cause is that the key is too long
+pub slot-first : (p e : List ℕ) (k : Key) (b : Bool) → first (tableCauses false false p e) ≡ none → b ≡ true
+    → first (edgeSlotCauses p e k b) ≡ cond (tooLong k) (some Malformed) none
+slot-first p e k b h i = go (tooLong k) (wrong-first (tooLong k) p e h)
+  where
+    go : (t : Bool) → first (tableCauses false t p e) ≡ cond t (some Malformed) none
+        → first (tableCauses false t p e ++ ((not b ⇒ OutOfRange) ∷ [])) ≡ cond t (some Malformed) none
+    go true f = sym (refused-first some none (some Malformed) (tableCauses false true p e) _ Malformed f refl)
+    go false f = sym (after some none none (tableCauses false false p e) _ f (unfold outcome in rw i))
+
+-- a key is translated alike by tables without causes 1 to 4 in which it is bounded and is translated to the same
+pub alike : (p e p′ e′ : List ℕ) (k : Key) → first (tableCauses false false p e) ≡ none → first (tableCauses false false p′ e′) ≡ none
+    → BoundedKey (elements p) k ≡ true → BoundedKey (elements p′) k ≡ true
+    → TranslateKey (elements p′) (edges e′) k ≡ TranslateKey (elements p) (edges e) k → TranslatedAlike p e p′ e′ k
+alike p e p′ e′ k h h′ b b′ t d =
+    let same = slot-first p′ e′ k _ h′ b′ ∙ sym (slot-first p e k _ h b) in
+    (rw t (followed _ _ _ _ _ same), rw t (followed _ _ _ _ _ same))

@@ -1,0 +1,12 @@
+pub mod Between
+pub mod Ranges
+pub mod Cuts
+pub mod CutEdges
+pub mod SplitEdges
+pub mod Preserved
+pub mod PlainCut
+pub mod Sides
+pub mod OneCut
+pub mod AcceptedCuts
+pub mod OneOrder
+pub mod TwoOrders

@@ -1,0 +1,3 @@
+pub mod CommonRun
+pub mod Order
+pub mod Key

@@ -1,0 +1,4 @@
+pub mod Places
+pub mod Insertable
+pub mod Routing
+pub mod Slots

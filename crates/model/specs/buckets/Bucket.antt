@@ -1,0 +1,71 @@
+-- Buckets: entries of a key record and a number, and their translation (TranslateBucket, WFTBucket of TranslationLib).
+use mathlib.Core.Path.{_≡_}
+use mathlib.Core.Bool.{Bool, true, false, cond}
+use mathlib.Core.List.{List, [], _∷_, _++_, map}
+use Prim.Native.Nat.{ℕ, _+_, _/_, _≤_, _<_}
+use lib.ListN.{length, take, drop, getD}
+use Rattle.model.specs.keys.Key.{Key, IsPrefix, changePrefix}
+use Rattle.model.specs.keys.Order.{Element}
+use Rattle.model.specs.records.Record.{recordSize, keyBytes, recordOf, pieces, joined}
+use Rattle.model.specs.tables.Tables.{IsStrictlySorted}
+
+-- "a key record and a four-byte number"; "a lent slice of 0 to 512 entries"
+abbrev pub numberSize : ℕ
+numberSize = 4
+
+abbrev pub entrySize : ℕ
+entrySize = recordSize + numberSize
+
+abbrev pub maxEntries : ℕ
+maxEntries = 512
+
+-- an entry: its key, and its number's bytes, high byte first
+pub record Entry : Type 0 where
+  pub key : Key
+  pub number : List ℕ
+
+abbrev pub Bucket : Type 0
+Bucket = List Entry
+
+-- ---- as bytes
+
+-- the record at the head of an entry
+abbrev pub entryRecord : List ℕ → List ℕ
+entryRecord b = take recordSize b
+
+unfoldable pub entryOf : List ℕ → Entry
+entryOf b = record { key = keyBytes (entryRecord b); number = drop recordSize b }
+
+unfoldable pub encodeEntry : Entry → List ℕ
+encodeEntry e = recordOf (length (e .key)) (e .key) ++ e .number
+
+unfoldable pub entries : List ℕ → Bucket
+entries l = map entryOf (pieces entrySize (length l / entrySize) l)
+
+unfoldable pub encodeBucket : Bucket → List ℕ
+encodeBucket b = joined (map encodeEntry b)
+
+-- ---- TranslateBucket
+
+abbrev pub translateEntry : Key → Key → Entry → Entry
+translateEntry p q e = record { key = changePrefix p q (e .key); number = e .number }
+
+-- "Entries whose key begins with the prefix are kept in order, key changed, number the same"
+unfoldable pub TranslateBucket : Bucket → Key → Key → Bucket
+TranslateBucket [] p q = []
+TranslateBucket (e ∷ b) p q =
+    cond (IsPrefix p (e .key)) (translateEntry p q e ∷ TranslateBucket b p q) (TranslateBucket b p q)
+
+-- WFBucket's order: "Strictly rising entries"
+unfoldable pub entriesRise : Bucket → Bool
+entriesRise b = IsStrictlySorted (map (λ (e : Entry). Element.key (e .key)) b)
+
+-- WFTBucket at idx 0, with the ghost idxs: each entry of the result comes from the place that idxs gives, in order, and no other entry has the prefix
+pub record WFTBucket (b t : Bucket) (idxs : List ℕ) (p q : Key) : Type 0 where
+  pub count : length t ≡ length idxs
+  pub atMost : length t ≤ length b
+  pub inside : (i : ℕ) → i < length t → getD idxs i 0 < length b
+  pub rising : (i j : ℕ) → i < j → j < length idxs → getD idxs i 0 < getD idxs j 0
+  pub begins : (i : ℕ) (e : Entry) → i < length t → IsPrefix p (getD b (getD idxs i 0) e .key) ≡ true
+  pub translated : (i : ℕ) (e : Entry) → i < length t → getD t i e ≡ translateEntry p q (getD b (getD idxs i 0) e)
+  pub others : (j : ℕ) (e : Entry) → j < length b → ((i : ℕ) → i < length idxs → getD idxs i 0 ≡ j → ⊥) → IsPrefix p (getD b j e .key) ≡ false

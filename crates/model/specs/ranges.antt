@@ -1,0 +1,2 @@
+pub mod RangePrefix
+pub mod UpperBound

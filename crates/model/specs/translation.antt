@@ -1,0 +1,4 @@
+pub mod PrefixSet
+pub mod Translation
+pub mod Renaming
+pub mod ParentChild
