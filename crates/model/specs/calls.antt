@@ -2,4 +2,8 @@ pub mod Refusals
 pub mod KeyCalls
 pub mod TableCalls
 pub mod CutCalls
+pub mod PairCalls
 pub mod TranslationCalls
+pub mod PairRecordCalls
+pub mod RenamingCalls
+pub mod ParentChildCalls

@@ -88,9 +88,13 @@ edgeReading w = allowed true false w
 abbrev pub zeros : ℕ → List ℕ
 zeros n = replicate n 0
 
--- a length field, the key's bytes, and zeros up to the record's end
+-- a key in 64 bytes, "zero after the key's end"
+abbrev pub padded : Key → List ℕ
+padded k = k ++ zeros (maxLen - length k)
+
+-- a length field, and the key's bytes up to the record's end
 unfoldable pub recordOf : ℕ → Key → List ℕ
-recordOf n k = n / 256 ∷ n % 256 ∷ k ++ zeros (maxLen - length k)
+recordOf n k = n / 256 ∷ n % 256 ∷ padded k
 
 unfoldable pub encode : Element → List ℕ
 encode (key k) = recordOf (length k) k

@@ -1,9 +1,9 @@
 -- Prefix pairs: the PrefixSet functions of TranslationLib.
-use mathlib.Core.Bool.{Bool, true, cond, _||_}
+use mathlib.Core.Bool.{Bool, true, false, cond, _||_}
 use mathlib.Core.Option.{Option, none, some}
 use lib.Dec.{leb}
 use lib.ListN.{length}
-use Rattle.model.specs.keys.Key.{Key, IsPrefix, changePrefix}
+use Rattle.model.specs.keys.Key.{Key, tooLong, IsPrefix, changePrefix}
 
 -- datatype PrefixSet; under Option, none is the absent pair
 pub record PrefixSet : Type 0 where
@@ -17,6 +17,11 @@ pair p q = some (record { prefix = p; newPrefix = q })
 unfoldable pub RevPrefixSet : Option PrefixSet → Option PrefixSet
 RevPrefixSet none = none
 RevPrefixSet (some a) = pair (a .newPrefix) (a .prefix)
+
+-- the keys that a pair changes: those that begin with its old prefix; an absent pair takes any
+unfoldable pub Begins : Option PrefixSet → Key → Bool
+Begins none k = true
+Begins (some a) k = IsPrefix (a .prefix) k
 
 -- ApplyPrefixSet, for a key that begins with the old prefix
 unfoldable pub ApplyPrefixSet : Option PrefixSet → Key → Key
@@ -37,3 +42,8 @@ ComposePrefixSet (some a) (some b) =
     cond (leb (length (a .prefix)) (length (b .prefix)))
     (pair (b .newPrefix) (ApplyPrefixSet (some a) (b .prefix)))
     (pair (ApplyPrefixSet (some b) (a .prefix)) (a .newPrefix))
+
+-- 8 in composing: one of the two prefixes passes 64 bytes
+unfoldable pub longPair : Option PrefixSet → Bool
+longPair none = false
+longPair (some a) = tooLong (a .prefix) || tooLong (a .newPrefix)
