@@ -5,4 +5,5 @@ pub mod records
 pub mod ranges
 pub mod tables
 pub mod cuts
+pub mod translation
 pub mod Rows

@@ -3,4 +3,6 @@ pub mod TableCalls
 pub mod KeyCalls
 pub mod CutCalls
 pub mod WrittenTables
+pub mod PairCalls
+pub mod TranslationCalls
 pub mod Alike

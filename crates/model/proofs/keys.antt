@@ -1,3 +1,4 @@
 pub mod CommonRun
 pub mod Order
 pub mod Key
+pub mod ChangePrefix

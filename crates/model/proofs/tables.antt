@@ -2,3 +2,4 @@ pub mod Places
 pub mod Insertable
 pub mod Routing
 pub mod Slots
+pub mod SlotPrefix

@@ -92,7 +92,7 @@ read-elements (r ∷ rs) h =
     rw (pivot-reading rs (reading r) (b .0)) (read-elements rs (b .1))
 
 -- a disjunction that fails, fails on both sides
-either-fails : (a b : Bool) → (a || b) ≡ false → (a ≡ false) × (b ≡ false)
+pub either-fails : (a b : Bool) → (a || b) ≡ false → (a ≡ false) × (b ≡ false)
 either-fails true b h = absurd (true≢false h)
 either-fails false b h = (refl, h)
 

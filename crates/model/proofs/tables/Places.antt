@@ -3,7 +3,7 @@ use mathlib.Core.Path.{_≡_, refl, sym, _∙_}
 use mathlib.Core.Logic.{⊎-elim}
 use mathlib.Core.Bool.{Bool, true, false, cond, not, _&&_, Bool·not-not, true≢false}
 use mathlib.Core.List.{List, [], _∷_}
-use Prim.Native.Nat.{ℕ, zero, suc, _-_, _≤_, _<_}
+use Prim.Native.Nat.{ℕ, zero, suc, _+_, _-_, _≤_, _<_}
 use native.Mathlib.Nat.{eq-or-lt-of-le}
 use native.Mathlib.Omega.{arith}
 use borrow.Author.Tests.{lt-ltb, le-ltb}
@@ -136,6 +136,19 @@ sorted-at (p ∷ pt) zero zero s h k = absurd (omega arith)
 sorted-at (p ∷ pt) zero (suc j) s h k = first-below p pt j s (omega arith)
 sorted-at (p ∷ pt) (suc i) zero s h k = absurd (omega arith)
 sorted-at (p ∷ pt) (suc i) (suc j) s h k = sorted-at pt i j (sorted-tail p pt s) (omega arith) (omega arith)
+
+rises-of : (p : Element) (pt : PivotTable) → ((i : ℕ) → i + 1 < length (p ∷ pt) → lt (pivotAt (p ∷ pt) i) (pivotAt (p ∷ pt) (i + 1)) ≡ true)
+    → risesFrom p pt ≡ true
+unfolding risesFrom
+rises-of p [] f = refl
+rises-of p (q ∷ pt) f =
+    rw (f 0 (omega arith)) (rises-of q pt (λ i h. let z : suc i + 1 ≡ suc (i + 1) = omega arith in rw z at (f (suc i) (omega arith))))
+
+-- pivots each of which is below the next one rise
+pub sorted-of : (pt : PivotTable) → ((i : ℕ) → i + 1 < length pt → lt (pivotAt pt i) (pivotAt pt (i + 1)) ≡ true) → IsStrictlySorted pt ≡ true
+unfolding IsStrictlySorted
+sorted-of [] f = refl
+sorted-of (p ∷ pt) f = rises-of p pt f
 
 -- and neither above itself nor above a later one
 pub sorted-lte : (pt : PivotTable) (i j : ℕ) → IsStrictlySorted pt ≡ true → i ≤ j → j < length pt → lte (pivotAt pt i) (pivotAt pt j) ≡ true

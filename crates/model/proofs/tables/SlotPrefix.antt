@@ -1,0 +1,51 @@
+-- "The prefix that we replace is the longest that all keys of that shelf share": the prefix of a slot's range, by the keys that Route sends to the slot.
+use mathlib.Core.Path.{_≡_, refl, sym, _∙_}
+use mathlib.Core.Bool.{true}
+use Prim.Native.Nat.{ℕ, _+_, _-_, _≤_, _<_}
+use native.Mathlib.Omega.{arith}
+use borrow.Author.Tests.{leb-true}
+use lib.ListN.{length}
+use Rattle.model.specs.keys.Key.{Key, Bytes, maxLen, IsPrefix}
+use Rattle.model.specs.keys.Order.{Element, key, max, lte, lt}
+use Rattle.model.specs.ranges.RangePrefix.{PivotLcp, InBetween}
+use Rattle.model.specs.tables.Tables.{PivotTable, NumBuckets, pivotAt, shortElement, WFPivots, BoundedKey, Route, GetKey}
+use Rattle.model.proofs.keys.Key.{both, prefix-length}
+use Rattle.model.proofs.ranges.RangePrefix.{BytesE, prefix-of-left, shared, longest}
+use Rattle.model.proofs.tables.Places.{sorted-at}
+use Rattle.model.proofs.tables.Routing.{wf-sorted, wf-keys, wf-short, get-key, route-between, slot-bounded, slot-is-route}
+use Rattle.model.proofs.cuts.Between.{BytesT, bytes-at}
+
+-- the prefix of a range is no longer than its left end
+pub range-prefix-short : (l r : Element) → shortElement l ≡ true → length (PivotLcp l r) ≤ maxLen
+unfolding PivotLcp
+range-prefix-short (key l) r h = omega (arith, prefix-length (PivotLcp (key l) r) l (prefix-of-left l r), leb-true (length l) maxLen h)
+range-prefix-short max r h = omega arith
+
+module _ (pt : PivotTable) (w : WFPivots pt ≡ true) (t : BytesT pt) (i : ℕ) (h : i < NumBuckets pt) where
+  l : Key
+  l = GetKey pt i
+
+  left-is : pivotAt pt i ≡ key l
+  unfolding l
+  left-is = get-key pt i (wf-keys pt w i h)
+
+  -- it begins every key that Route sends to the slot
+  pub slot-prefix-shared : (k : Key) → Bytes k → BoundedKey pt k ≡ true → Route pt k ≡ i → IsPrefix (PivotLcp (pivotAt pt i) (pivotAt pt (i + 1))) k ≡ true
+  slot-prefix-shared k b c r =
+      rw left-is (shared l (pivotAt pt (i + 1)) k b (rw (r, left-is) at (route-between pt k w c)))
+
+  -- and whatever begins all of these, of at most 64 bytes, begins it
+  pub slot-prefix-longest : (p : Key)
+      → ((k : Key) → Bytes k → length k ≤ maxLen → BoundedKey pt k ≡ true → Route pt k ≡ i → IsPrefix p k ≡ true)
+      → IsPrefix p (PivotLcp (pivotAt pt i) (pivotAt pt (i + 1))) ≡ true
+  slot-prefix-longest p f =
+      rw left-is
+      (longest l (pivotAt pt (i + 1)) p (rw left-is at (bytes-at pt i t)) (bytes-at pt (i + 1) t)
+      (leb-true (length l) maxLen (rw left-is at (wf-short pt w i (omega arith))))
+      (rw left-is at (sorted-at pt i (i + 1) (wf-sorted pt w) (omega arith) (omega arith))) each)
+    where
+      each : (k : Key) → Bytes k → length k ≤ maxLen → InBetween (key l) (pivotAt pt (i + 1)) k ≡ true → IsPrefix p k ≡ true
+      each k b s j =
+          let c = both (lte (key l) (key k)) (lt (key k) (pivotAt pt (i + 1))) j in
+          let d : lte (pivotAt pt i) (key k) ≡ true = rw left-is (c .0) in
+          f k b s (slot-bounded pt k w i h d (c .1)) (sym (slot-is-route pt k w i h d (c .1)))

@@ -1,0 +1,29 @@
+-- A pair's state: read back it is the pair that it was made from.
+use mathlib.Core.Path.{_≡_, refl}
+use mathlib.Core.Option.{Option, none, some}
+use native.Mathlib.Omega.{arith}
+use Prim.Native.Nat.{ℕ, _≤_}
+use borrow.Author.Tests.{ltb-false}
+use lib.ListN.{length, length-append, length-replicate}
+use lib.Seq.{take-append-seam}
+use mathlib.Core.Bool.{true, false, _||_}
+use Rattle.model.specs.keys.Key.{Key, maxLen, tooLong}
+use Rattle.model.specs.records.Record.{zeros, padded}
+use Rattle.model.specs.translation.PrefixSet.{PrefixSet, longPair}
+use Rattle.model.specs.translation.PairState.{PairState, notPair, pairOf, stateWith, stateOf}
+
+-- the pair that a state is made of is read back from it
+pub state-pair : (o : Option PrefixSet) → pairOf (stateOf o) ≡ o
+unfolding pairOf stateOf stateWith
+state-pair none = refl
+state-pair (some a) = rw (take-append-seam (a .prefix) _, take-append-seam (a .newPrefix) _)
+
+-- cause 2 applies to the state of a pair where it is too long
+pub state-wrong : (o : Option PrefixSet) → notPair (stateOf o) ≡ longPair o
+unfolding notPair stateOf stateWith longPair
+state-wrong none = refl
+state-wrong (some a) = refl
+
+-- a key of at most 64 bytes fills 64 with the zeros after it
+pub length-padded : (k : Key) → length k ≤ maxLen → length (padded k) ≡ maxLen
+length-padded k h = simp (length-append, length-replicate) (omega arith)
