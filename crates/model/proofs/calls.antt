@@ -5,4 +5,5 @@ pub mod CutCalls
 pub mod WrittenTables
 pub mod PairCalls
 pub mod TranslationCalls
+pub mod ParentChildCalls
 pub mod Alike
