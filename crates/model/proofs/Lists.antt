@@ -144,6 +144,13 @@ module _ {A : Type 0} (test : A → Bool) where
   all-at (x ∷ xs) zero d e h = both (test x) (all test xs) h .0
   all-at (x ∷ xs) (suc i) d e h = all-at xs i d e (both (test x) (all test xs) h .1)
 
+  -- each place inside passes where all do
+  pub all-inside : (xs : List A) (i : ℕ) (d : A) → i < length xs → all test xs ≡ true → test (getD xs i d) ≡ true
+  unfolding all
+  all-inside [] i d l h = absurd (omega arith)
+  all-inside (x ∷ xs) zero d l h = both (test x) (all test xs) h .0
+  all-inside (x ∷ xs) (suc i) d l h = all-inside xs i d (omega arith) (both (test x) (all test xs) h .1)
+
   -- all of two lists pass where all of each do
   pub all-append : (xs ys : List A) → all test (xs ++ ys) ≡ (all test xs && all test ys)
   unfolding all

@@ -5,5 +5,6 @@ pub mod CutCalls
 pub mod WrittenTables
 pub mod PairCalls
 pub mod TranslationCalls
+pub mod RenamingCalls
 pub mod ParentChildCalls
 pub mod Alike

@@ -13,7 +13,7 @@ use Rattle.model.specs.keys.Key.{Key, Bytes, maxLen, tooLong, IsPrefix}
 use Rattle.model.specs.keys.Order.{Element, key}
 use Rattle.model.specs.records.Record.{Edge, edge, noEdge, elements, edges}
 use Rattle.model.specs.ranges.RangePrefix.{PivotLcp}
-use Rattle.model.specs.tables.Tables.{pivotAt, shortElement, shortEdge, Route, CutoffForRight}
+use Rattle.model.specs.tables.Tables.{pivotAt, edgeAt, shortElement, shortEdge, Route, CutoffForRight}
 use Rattle.model.specs.translation.PrefixSet.{PrefixSet, Begins, ApplyPrefixSet, longPair}
 use Rattle.model.specs.translation.PairState.{stateOf, pairOf}
 use Rattle.model.specs.translation.Translation.{edgePair, Translate, TranslateKey}
@@ -58,6 +58,16 @@ module _ (p e : List ℕ) (k : Key) (h : first (translateCauses p e k) ≡ none)
   -- it is the pair beside the answer
   translate-is : translatePair p e k ≡ stateOf (Translate (elements p) (edges e) k)
   translate-is = sym (passed (λ (_ : Refusal). stateOf none) _ _ (translateCauses p e k) h refl)
+
+  -- without an edge it is absent
+  pub translate-absent : edgeAt (edges e) (Route (elements p) k) ≡ noEdge → translateAnswer p e k ≡ answers.Value 0
+  unfolding Translate edgePair thereNumber
+  translate-absent f = sym (passed answers.Refused _ (answers.Value 0) (translateCauses p e k) h (rw f))
+
+  -- with one it is there
+  pub translate-there : (q : Key) → edgeAt (edges e) (Route (elements p) k) ≡ edge q → translateAnswer p e k ≡ answers.Value 1
+  unfolding Translate edgePair thereNumber
+  translate-there q f = sym (passed answers.Refused _ (answers.Value 1) (translateCauses p e k) h (rw f))
 
   module _ (b : Bytes k) (d : List ℕ) where
     translated : ApplyPrefixSet (pairOf (translatePair p e k)) k ≡ TranslateKey (elements p) (edges e) k

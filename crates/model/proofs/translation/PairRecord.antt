@@ -11,7 +11,7 @@ use lib.ListN.{length, take, drop, getD, length-append}
 use lib.Seq.{take-at, drop-at, take-all}
 use Rattle.model.specs.keys.Key.{Key, maxLen, tooLong}
 use Rattle.model.specs.records.Record.{lengthField, padded}
-use Rattle.model.specs.translation.PrefixSet.{PrefixSet, longPair}
+use Rattle.model.specs.translation.PrefixSet.{PrefixSet, pair, longPair}
 use Rattle.model.specs.translation.PairState.{PairState, notPair, stateWith, stateOf}
 use Rattle.model.specs.translation.PairRecord.{pairSize, stateAt, wrongPair, flag, encodeState, encodePair}
 use Rattle.model.proofs.calls.TableCalls.{either-fails}
@@ -74,3 +74,9 @@ flag-low (some a) = refl
 pub right-pair : (o : Option PrefixSet) → longPair o ≡ false → wrongPair (encodePair o) ≡ false
 unfolding wrongPair
 right-pair o h = rw (flag-low o, read-pair o h, state-wrong o) h
+
+-- the record of the pair from 41 to 50 30: the flag, the lengths, and where the prefixes begin
+pub record-of-pair : (take 6 (encodePair (pair (0x41 ∷ []) (0x50 ∷ 0x30 ∷ []))) ≡ 1 ∷ 0 ∷ 1 ∷ 0 ∷ 2 ∷ 0x41 ∷ [])
+    × (take 3 (drop 69 (encodePair (pair (0x41 ∷ []) (0x50 ∷ 0x30 ∷ [])))) ≡ 0x50 ∷ 0x30 ∷ 0 ∷ [])
+unfolding encodeState stateOf stateWith
+record-of-pair = (refl, refl)

@@ -4,7 +4,7 @@ use mathlib.Core.Option.{Option, none, some}
 use native.Mathlib.Omega.{arith}
 use Prim.Native.Nat.{ℕ, _≤_}
 use borrow.Author.Tests.{ltb-false}
-use lib.ListN.{length, length-append, length-replicate}
+use lib.ListN.{length, take, length-append, length-replicate}
 use lib.Seq.{take-append-seam}
 use mathlib.Core.Bool.{true, false, _||_}
 use Rattle.model.specs.keys.Key.{Key, maxLen, tooLong}
@@ -27,3 +27,23 @@ state-wrong (some a) = refl
 -- a key of at most 64 bytes fills 64 with the zeros after it
 pub length-padded : (k : Key) → length k ≤ maxLen → length (padded k) ≡ maxLen
 length-padded k h = simp (length-append, length-replicate) (omega arith)
+
+-- ---- what is not looked at
+
+module _ (s : PairState) (h : s .there ≡ false) where
+  -- an absent pair is right, whatever its lengths
+  pub absent-right : notPair s ≡ false
+  unfolding notPair
+  absent-right = rw h
+
+  -- and stands for none, whatever its bytes
+  pub absent-pair : pairOf s ≡ none
+  unfolding pairOf
+  absent-pair = rw h
+
+-- two states that agree but for bytes past their lengths stand for one pair
+pub past-lengths : (s t : PairState) → s .there ≡ t .there → s .oldLength ≡ t .oldLength → s .newLength ≡ t .newLength
+    → take (s .oldLength) (s .oldBytes) ≡ take (s .oldLength) (t .oldBytes) → take (s .newLength) (s .newBytes) ≡ take (s .newLength) (t .newBytes)
+    → pairOf s ≡ pairOf t
+unfolding pairOf
+past-lengths s t a b c d e = rw (a, d, e, b, c)
