@@ -1,21 +1,24 @@
--- The sixteen rows hold, and T's list is the one in document 01.
+-- The sixteen rows hold, T's list is the one in document 01, and T's pivots are renamed.
 use mathlib.Core.Path.{_≡_, refl}
-use mathlib.Core.List.{_++_}
+use mathlib.Core.List.{[], _∷_, _++_}
+use Prim.Native.Nat.{_*_}
+use Rattle.model.specs.declared.Answer.the-variants.{Value}
 use Rattle.model.specs.keys.Key.{changePrefix, IsPrefix}
-use Rattle.model.specs.keys.Order.{lteKey, lte, lastPlace, LargestLte, LargestLt}
+use Rattle.model.specs.keys.Order.{key, lteKey, lte, lastPlace, LargestLte, LargestLt}
 use Rattle.model.specs.ranges.RangePrefix.{lcpright, lcp, PivotLcp}
 use Rattle.model.specs.ranges.UpperBound.{raisedAt, uncommonFrom, ShortestUncommonPrefix}
 use Rattle.model.specs.records.Record.{lengthField, allZero, fieldReading, reading, keyBytes, element, edgeOf, recordOf, encode, encodeEdge}
-use Rattle.model.specs.records.Record.{pieces, joined, records, elements, edges, encodeAll, encodeEdges}
+use Rattle.model.specs.records.Record.{recordSize, zeros, pieces, joined, records, elements, edges, encodeAll, encodeEdges}
 use Rattle.model.specs.tables.Tables.{all, risesFrom, IsStrictlySorted, edgesFit, WFEdges, Route, CutoffForLeft, CutoffForRight}
 use Rattle.model.specs.cuts.Cuts.{SplitLeft, SplitRight, cutEdge, edgeWithin, SplitLeftEdges, SplitRightEdges}
 use Rattle.model.specs.translation.PrefixSet.{RevPrefixSet, ApplyPrefixSet, ComposePrefixSet}
-use Rattle.model.specs.translation.Renaming.{TranslateElement, translateRight, TranslatePivotPairInternal}
+use Rattle.model.specs.translation.Renaming.{TranslateElement, translateRight, TranslatePivotPairInternal, TranslatePivots}
 use Rattle.model.specs.calls.Refusals.{outcome}
 use Rattle.model.specs.calls.TableCalls.{notPivotCount, notEdgeCount, pivotsRead, edgesRead, pivotCauses, tableCauses}
+use Rattle.model.specs.calls.RenamingCalls.{pivotsAnswer}
 use Rattle.model.specs.list.ShelfList.{header, dash, digit, decimal, hex, keyText, elementText, edgeText, slotLine, slotLines, tableText}
 use Rattle.model.specs.list.ShelfList.{listPivots, listEdges, notListSize, listCauses, shelfList}
-use Rattle.model.specs.Rows.{AllHold, rows, inputT, linesT}
+use Rattle.model.specs.Rows.{AllHold, rows, pivotsT, inputT, linesT}
 
 pub cases : AllHold rows
 unfolding changePrefix IsPrefix lteKey lte lastPlace LargestLte LargestLt lcpright lcp PivotLcp raisedAt uncommonFrom ShortestUncommonPrefix Route CutoffForLeft CutoffForRight SplitLeft SplitRight cutEdge edgeWithin SplitLeftEdges SplitRightEdges RevPrefixSet ApplyPrefixSet ComposePrefixSet TranslateElement translateRight TranslatePivotPairInternal
@@ -25,3 +28,8 @@ cases =
 pub list-of-T : shelfList inputT ≡ header ++ linesT
 unfolding lteKey lte lcpright lcp PivotLcp lengthField allZero fieldReading reading keyBytes element edgeOf recordOf encode encodeEdge pieces joined records elements edges encodeAll encodeEdges all risesFrom IsStrictlySorted edgesFit WFEdges outcome pivotCauses tableCauses notPivotCount notEdgeCount pivotsRead edgesRead header dash digit decimal hex keyText elementText edgeText slotLine slotLines tableText listPivots listEdges notListSize listCauses shelfList
 list-of-T = refl
+
+-- T's pivots are renamed from 41 to 43 with the end 44: the last one, which 41 does not begin, is not looked at
+pub renaming-of-T : pivotsAnswer (encodeAll pivotsT) (0x41 ∷ []) (0x43 ∷ []) (encode (key (0x44 ∷ []))) (zeros (3 * recordSize)) ≡ Value 3
+unfolding outcome pivotCauses notPivotCount pivotsRead records pieces elements encodeAll encode recordOf joined reading fieldReading lengthField allZero element keyBytes IsStrictlySorted risesFrom lte lteKey all IsPrefix changePrefix TranslateElement TranslatePivots
+renaming-of-T = refl

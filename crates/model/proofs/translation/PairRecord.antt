@@ -3,9 +3,9 @@ use mathlib.Core.Path.{_≡_, refl, sym, _∙_}
 use mathlib.Core.Bool.{Bool, true, false, _||_}
 use mathlib.Core.List.{List, [], _∷_, _++_}
 use mathlib.Core.Option.{Option, none, some}
-use Prim.Native.Nat.{ℕ, _+_, _*_, _/_, _%_, _≤_}
+use Prim.Native.Nat.{ℕ, _+_, _*_, _/_, _%_, _≤_, _<_}
 use native.Mathlib.Omega.{arith}
-use borrow.Author.Tests.{ltb-false}
+use borrow.Author.Tests.{ltb-false, lt-ltb}
 use lib.Dec.{eqb, ltb}
 use lib.ListN.{length, take, drop, getD, length-append}
 use lib.Seq.{take-at, drop-at, take-all}
@@ -14,6 +14,7 @@ use Rattle.model.specs.records.Record.{lengthField, padded}
 use Rattle.model.specs.translation.PrefixSet.{PrefixSet, pair, longPair}
 use Rattle.model.specs.translation.PairState.{PairState, notPair, stateWith, stateOf}
 use Rattle.model.specs.translation.PairRecord.{pairSize, stateAt, wrongPair, flag, encodeState, encodePair}
+use Rattle.model.proofs.calls.Refusals.{or-left}
 use Rattle.model.proofs.calls.TableCalls.{either-fails}
 use Rattle.model.proofs.translation.PairState.{length-padded, state-wrong}
 
@@ -69,6 +70,11 @@ flag-low : (o : Option PrefixSet) → ltb 1 (getD (encodePair o) 0 0) ≡ false
 unfolding encodeState stateOf stateWith
 flag-low none = refl
 flag-low (some a) = refl
+
+-- any other flag is malformed
+pub other-flag : (x : ℕ) (l : List ℕ) → 1 < x → wrongPair (x ∷ l) ≡ true
+unfolding wrongPair
+other-flag x l h = or-left (ltb 1 x) (notPair (stateAt (x ∷ l))) (lt-ltb 1 x h)
 
 -- and cause 2 does not apply to it
 pub right-pair : (o : Option PrefixSet) → longPair o ≡ false → wrongPair (encodePair o) ≡ false
