@@ -6,4 +6,5 @@ pub mod ranges
 pub mod tables
 pub mod cuts
 pub mod translation
+pub mod buckets
 pub mod Rows

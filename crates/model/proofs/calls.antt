@@ -7,4 +7,5 @@ pub mod PairCalls
 pub mod TranslationCalls
 pub mod RenamingCalls
 pub mod ParentChildCalls
+pub mod BucketCalls
 pub mod Alike

@@ -7,3 +7,4 @@ pub mod TranslationCalls
 pub mod PairRecordCalls
 pub mod RenamingCalls
 pub mod ParentChildCalls
+pub mod BucketCalls

@@ -28,7 +28,7 @@ use Rattle.model.proofs.cuts.CutEdges.{edges-say}
 
 -- the pieces of what is written one after the other, each in s bytes, are what is written
 module _ {A : Type 0} (s : ℕ) (ok : A → Bool) (write : A → List ℕ) (size : (x : A) → ok x ≡ true → length (write x) ≡ s) where
-  pieces-written : (xs : List A) → all ok xs ≡ true → pieces s (length xs) (joined (map write xs)) ≡ map write xs
+  pub pieces-written : (xs : List A) → all ok xs ≡ true → pieces s (length xs) (joined (map write xs)) ≡ map write xs
   unfolding pieces joined all
   pieces-written [] h = refl
   pieces-written (x ∷ xs) h =

@@ -217,7 +217,7 @@ record-read (x ∷ y ∷ t) f n b h w =
     rw (hx, hy, hl, m, ← z, take-append-drop n t)
 
 -- a record of a key is the record of its key bytes
-key-record : (r : List ℕ) → Bytes r → length r ≡ recordSize → (n : ℕ) → Read r n n → recordOf (length (keyBytes r)) (keyBytes r) ≡ r
+pub key-record : (r : List ℕ) → Bytes r → length r ≡ recordSize → (n : ℕ) → Read r n n → recordOf (length (keyBytes r)) (keyBytes r) ≡ r
 unfolding keyBytes
 key-record r b h n w =
     let l : length (take n (drop 2 r)) ≡ n = length-take-le n (drop 2 r) (omega (arith, length-drop 2 r)) in

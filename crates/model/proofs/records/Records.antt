@@ -14,7 +14,6 @@ use Rattle.model.specs.keys.Order.{Element}
 use Rattle.model.specs.records.Record.{Edge, recordSize, reading, elementReading, edgeReading, recordOf, encode, encodeEdge, element, edgeOf}
 use Rattle.model.specs.records.Record.{pieces, joined, records, elements, edges, encodeAll, encodeEdges}
 use Rattle.model.specs.tables.Tables.{all, shortElement, shortEdge}
-use Rattle.model.specs.buckets.Bucket.{Entry, Bucket, numberSize, entrySize, entryOf, encodeEntry, entries, encodeBucket}
 use Rattle.model.proofs.Lists.{all-parts}
 use Rattle.model.proofs.keys.Key.{both, bytes-take, bytes-drop}
 use Rattle.model.proofs.records.Record.{length-record, length-encode, length-encodeEdge, element-encode, edge-encode}
@@ -141,40 +140,3 @@ pub encodeEdges-edges : (l : List ℕ) (n : ℕ) → Bytes l → length l ≡ n 
 unfolding encodeEdges edges records
 encodeEdges-edges l n b h =
     joined-read recordSize (λ (r : List ℕ). edgeReading (reading r)) edgeOf encodeEdge encode-edge (length l / recordSize) l b (omega arith)
-
--- ---- buckets
-
--- an entry reads back from its bytes
-pub entry-encode : (e : Entry) → length (e .key) ≤ maxLen → length (e .number) ≡ numberSize → entryOf (encodeEntry e) ≡ e
-unfolding entryOf encodeEntry
-entry-encode e h k =
-    let r = recordOf (length (e .key)) (e .key) in
-    let w = length-record (length (e .key)) (e .key) h in
-    rw (take-at r (e .number) recordSize w, drop-at r (e .number) recordSize w, bytes-record)
-
--- a key of at most 64 bytes and a number of four
-abbrev pub sizedEntry : Entry → Bool
-sizedEntry e = leb (length (e .key)) maxLen && eqb (length (e .number)) numberSize
-
-module _ (e : Entry) (h : sizedEntry e ≡ true) where
-  sized : (length (e .key) ≤ maxLen) × (length (e .number) ≡ numberSize)
-  sized =
-      let p = both (leb (length (e .key)) maxLen) (eqb (length (e .number)) numberSize) h in
-      (leb-true (length (e .key)) maxLen (p .0), eqb-true (length (e .number)) numberSize (p .1))
-
-  length-entry : length (encodeEntry e) ≡ entrySize
-  unfolding encodeEntry
-  length-entry = rw (length-append, length-record (length (e .key)) (e .key) (sized .0), sized .1)
-
-  read-entry : entryOf (encodeEntry e) ≡ e
-  read-entry = entry-encode e (sized .0) (sized .1)
-
--- the entries of a bucket have 70 bytes each
-pub length-encodeBucket : (b : Bucket) → all sizedEntry b ≡ true → length (encodeBucket b) ≡ length b * entrySize
-unfolding encodeBucket
-length-encodeBucket = length-joined entrySize sizedEntry encodeEntry length-entry
-
--- a bucket reads back from its bytes
-pub entries-encodeBucket : (b : Bucket) → all sizedEntry b ≡ true → entries (encodeBucket b) ≡ b
-unfolding entries encodeBucket
-entries-encodeBucket = read-joined entrySize sizedEntry encodeEntry length-entry entryOf read-entry (omega arith)

@@ -2,7 +2,7 @@
 use mathlib.Core.Path.{_≡_}
 use mathlib.Core.Bool.{Bool, true, false, cond}
 use mathlib.Core.List.{List, [], _∷_, _++_, map}
-use Prim.Native.Nat.{ℕ, _+_, _/_, _≤_, _<_}
+use Prim.Native.Nat.{ℕ, suc, _+_, _/_, _≤_, _<_}
 use lib.ListN.{length, take, drop, getD}
 use Rattle.model.specs.keys.Key.{Key, IsPrefix, changePrefix}
 use Rattle.model.specs.keys.Order.{Element}
@@ -39,8 +39,12 @@ entryOf b = record { key = keyBytes (entryRecord b); number = drop recordSize b 
 unfoldable pub encodeEntry : Entry → List ℕ
 encodeEntry e = recordOf (length (e .key)) (e .key) ++ e .number
 
+-- the bytes of each entry
+unfoldable pub entryBytes : List ℕ → List (List ℕ)
+entryBytes l = pieces entrySize (length l / entrySize) l
+
 unfoldable pub entries : List ℕ → Bucket
-entries l = map entryOf (pieces entrySize (length l / entrySize) l)
+entries l = map entryOf (entryBytes l)
 
 unfoldable pub encodeBucket : Bucket → List ℕ
 encodeBucket b = joined (map encodeEntry b)
@@ -60,12 +64,21 @@ TranslateBucket (e ∷ b) p q =
 unfoldable pub entriesRise : Bucket → Bool
 entriesRise b = IsStrictlySorted (map (λ (e : Entry). Element.key (e .key)) b)
 
--- WFTBucket at idx 0, with the ghost idxs: each entry of the result comes from the place that idxs gives, in order, and no other entry has the prefix
-pub record WFTBucket (b t : Bucket) (idxs : List ℕ) (p q : Key) : Type 0 where
+-- the places, from i on, of the entries that are kept
+unfoldable pub keptFrom : ℕ → Bucket → Key → List ℕ
+keptFrom i [] p = []
+keptFrom i (e ∷ b) p = cond (IsPrefix p (e .key)) (i ∷ keptFrom (suc i) b p) (keptFrom (suc i) b p)
+
+-- the ghost idxs of TranslateBucketInternal(bucket, prefix, newPrefix, 0)
+unfoldable pub keptPlaces : Bucket → Key → List ℕ
+keptPlaces b p = keptFrom 0 b p
+
+-- WFTBucket(bucket, tbucket, prefix, tPrefix, idx), t and idxs being tbucket's: each entry of t comes from the place that idxs gives, in order, and no other entry from idx on has the prefix
+pub record WFTBucket (b t : Bucket) (idxs : List ℕ) (p q : Key) (idx : ℕ) : Type 0 where
   pub count : length t ≡ length idxs
-  pub atMost : length t ≤ length b
-  pub inside : (i : ℕ) → i < length t → getD idxs i 0 < length b
+  pub atMost : length t ≤ length (drop idx b)
+  pub inside : (i : ℕ) → i < length t → (idx ≤ getD idxs i 0) × (getD idxs i 0 < length b)
   pub rising : (i j : ℕ) → i < j → j < length idxs → getD idxs i 0 < getD idxs j 0
   pub begins : (i : ℕ) (e : Entry) → i < length t → IsPrefix p (getD b (getD idxs i 0) e .key) ≡ true
   pub translated : (i : ℕ) (e : Entry) → i < length t → getD t i e ≡ translateEntry p q (getD b (getD idxs i 0) e)
-  pub others : (j : ℕ) (e : Entry) → j < length b → ((i : ℕ) → i < length idxs → getD idxs i 0 ≡ j → ⊥) → IsPrefix p (getD b j e .key) ≡ false
+  pub others : (j : ℕ) (e : Entry) → idx ≤ j → j < length b → ((i : ℕ) → i < length idxs → getD idxs i 0 ≡ j → ⊥) → IsPrefix p (getD b j e .key) ≡ false
