@@ -1,13 +1,13 @@
 -- "A renamed drawer keeps its order and loses no piece": WFTBucket of TranslateBucket, and what it means.
-use mathlib.Core.Path.{_≡_, refl, sym, ap, _∙_}
-use mathlib.Core.Bool.{Bool, true, false, cond, true≢false}
-use mathlib.Core.List.{List, [], _∷_, _++_, map}
+use mathlib.Core.Path.{_≡_, refl, ap, _∙_}
+use mathlib.Core.Bool.{Bool, true, false, cond}
+use mathlib.Core.List.{List, [], _∷_}
 use Prim.Native.Nat.{ℕ, zero, suc, _+_, _-_, _≤_, _<_}
 use native.Mathlib.Omega.{arith}
-use lib.ListN.{length, take, drop, getD, length-drop}
+use lib.ListN.{length, drop, getD, length-drop}
 use lib.Seq.{getD-drop}
-use Rattle.model.specs.keys.Key.{Key, IsPrefix, changePrefix}
-use Rattle.model.specs.buckets.Bucket.{Entry, Bucket, translateEntry, TranslateBucket, keptFrom, keptPlaces, WFTBucket}
+use Rattle.model.specs.keys.Key.{Key, IsPrefix}
+use Rattle.model.specs.buckets.Bucket.{Entry, Bucket, translateEntry, TranslateBucket, keptFrom, WFTBucket}
 
 -- the entries t come from those of b at the places xs, b's first entry being at the place i
 record Kept (i : ℕ) (b t : Bucket) (xs : List ℕ) (p q : Key) : Type 0 where

@@ -15,7 +15,7 @@ use Rattle.model.specs.records.Record.{recordSize, recordOf, reading, ke
 use Rattle.model.specs.tables.Tables.{all}
 use Rattle.model.specs.buckets.Bucket.{Entry, Bucket, numberSize, entrySize, entryRecord, entryOf, encodeEntry, entryBytes, entries, encodeBucket}
 use Rattle.model.proofs.keys.Key.{both, bytes-take}
-use Rattle.model.proofs.records.Record.{Read, key-read, key-record, length-record, bytes-record}
+use Rattle.model.proofs.records.Record.{key-read, key-record, length-record, bytes-record}
 use Rattle.model.proofs.records.Records.{length-joined, read-joined}
 
 -- an entry reads back from its bytes

@@ -1,16 +1,16 @@
 -- A renamed bucket: it is the kept entries translated, in order, each once; renaming back gives them; strictly rising entries stay so.
-use mathlib.Core.Path.{_≡_, refl, sym, ap, _∙_}
-use mathlib.Core.Bool.{Bool, true, false, cond, true≢false}
-use mathlib.Core.List.{List, [], _∷_, _++_, map, append-nil}
-use Prim.Native.Nat.{ℕ, zero, suc, _+_, _-_, _≤_, _<_}
+use mathlib.Core.Path.{_≡_, refl, ap, _∙_}
+use mathlib.Core.Bool.{Bool, true, false, cond}
+use mathlib.Core.List.{[], _∷_, _++_, map}
+use Prim.Native.Nat.{ℕ, zero, suc, _+_, _≤_, _<_}
 use native.Mathlib.Numerals.{add-one}
 use native.Mathlib.Omega.{arith}
 use mathlib.Core.Logic.{⊎-elim}
-use lib.ListN.{length, take, drop, getD, length-map}
+use lib.ListN.{length, take, getD, length-map}
 use lib.Seq.{take-suc, length-take-le}
 use Rattle.model.specs.keys.Key.{Key, IsPrefix, changePrefix}
 use Rattle.model.specs.keys.Order.{Element, max, lt}
-use Rattle.model.specs.tables.Tables.{IsStrictlySorted, pivotAt}
+use Rattle.model.specs.tables.Tables.{pivotAt}
 use Rattle.model.specs.buckets.Bucket.{Entry, Bucket, translateEntry, TranslateBucket, entriesRise, keptFrom, keptPlaces, WFTBucket}
 use Rattle.model.proofs.Lists.{getD-map, le-or-lt}
 use Rattle.model.proofs.keys.ChangePrefix.{change-begins, change-undone, change-lt}

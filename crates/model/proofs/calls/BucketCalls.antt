@@ -1,12 +1,12 @@
 -- Buckets by their bytes: a checked bucket is the bytes of its entries, a renamed one passes the check, and will-it-fit says no where the call answers 8 or 10.
-use mathlib.Core.Path.{_≡_, refl, sym, ap, _∙_}
+use mathlib.Core.Path.{_≡_, refl, sym, _∙_}
 use mathlib.Core.Bool.{Bool, true, false, cond, not, _&&_, _||_}
-use mathlib.Core.List.{List, [], _∷_, _++_, map}
-use mathlib.Core.Logic.{_⊎_, inl, inr, ⊎-elim}
-use mathlib.Core.Option.{Option, none, some}
-use Prim.Native.Nat.{ℕ, zero, suc, _+_, _*_, _/_, _%_, _≤_}
+use mathlib.Core.List.{List, [], _∷_, map}
+use mathlib.Core.Logic.{_⊎_, inl, inr}
+use mathlib.Core.Option.{none}
+use Prim.Native.Nat.{ℕ, zero, suc, _*_, _/_, _%_, _≤_}
 use native.Mathlib.Omega.{arith}
-use borrow.Author.Tests.{eqb-true, eq-eqb, leb-true, le-leb, not-false}
+use borrow.Author.Tests.{eqb-true, leb-true, le-leb, not-false}
 use lib.Dec.{eqb, leb}
 use lib.ListN.{length, take, drop, length-map, length-drop}
 use lib.Seq.{take-at, length-take-le}
@@ -20,7 +20,7 @@ use Rattle.model.specs.keys.Key.{Key, Bytes, maxLen, tooLong, IsPrefix}
 use Rattle.model.specs.records.Record.{recordSize, recordOf, reading, keyReading, encode, pieces}
 use Rattle.model.specs.tables.Tables.{all}
 use Rattle.model.specs.buckets.Bucket.{Entry, Bucket, numberSize, entrySize, maxEntries, entryRecord, entryOf, entryBytes, entries, encodeEntry, encodeBucket, translateEntry, TranslateBucket}
-use Rattle.model.specs.calls.Refusals.{Cause, _⇒_, outcome, first, yesOrNo, leaves, over}
+use Rattle.model.specs.calls.Refusals.{outcome, first, yesOrNo, over}
 use Rattle.model.specs.calls.BucketCalls.{notEntryCount, entriesRead, bucketCauses, newBucket, shortEntry, bucketLong, bucketFull, renameCauses}
 use Rattle.model.specs.calls.BucketCalls.{translateBucketCauses, translateBucketAnswer, translateBucketLeaves, willFitAnswer}
 use Rattle.model.proofs.Lists.{take-over, all-map}
@@ -29,7 +29,7 @@ use Rattle.model.proofs.records.Record.{length-record, reading-key}
 use Rattle.model.proofs.records.Records.{length-pieces, joined-read}
 use Rattle.model.proofs.buckets.Entries.{sizedEntry, sized, length-entry, length-encodeBucket, entries-encodeBucket, encode-entry, entry-sized}
 use Rattle.model.proofs.buckets.Bucket.{translated-wft}
-use Rattle.model.proofs.calls.Refusals.{here, later, passed, after, accepted, value-is, none-here, none-later, none-before, none-after}
+use Rattle.model.proofs.calls.Refusals.{passed, accepted, value-is, none-here, none-later, none-before, none-after}
 use Rattle.model.proofs.calls.TableCalls.{either-fails}
 use Rattle.model.proofs.calls.WrittenTables.{pieces-written}
 

@@ -1,8 +1,8 @@
 -- What the methods of a pair answer: reversing undoes, composing undoes the second pair and does the first, and its 8 loses no pair of use.
 use mathlib.Core.Path.{_≡_, refl, sym, ap, _∙_}
 use mathlib.Core.Bool.{Bool, true, false, cond, not, _&&_, _||_}
-use mathlib.Core.List.{List, [], _∷_}
-use mathlib.Core.Logic.{_⊎_, inl, inr, ⊎-elim}
+use mathlib.Core.List.{List, []}
+use mathlib.Core.Logic.{_⊎_, inl, inr}
 use mathlib.Core.Option.{Option, none, some}
 use Prim.Native.Nat.{ℕ, _≤_}
 use native.Mathlib.Omega.{arith}
@@ -10,17 +10,17 @@ use borrow.Author.Tests.{le-ltb, ltb-false, not-false}
 use lib.Dec.{ltb}
 use lib.ListN.{length, take, length-take}
 use Rattle.model.specs.declared.Refusal.{Refusal}
-use Rattle.model.specs.declared.Refusal.the-variants.{Malformed, NotPrefix, TooLong, NoRoom}
+use Rattle.model.specs.declared.Refusal.the-variants.{Malformed, NotPrefix, TooLong}
 use Rattle.model.specs.declared.Answer.the-variants as answers
 use Rattle.model.specs.keys.Key.{Key, maxLen, tooLong}
 use Rattle.model.specs.translation.PrefixSet.{PrefixSet, pair, RevPrefixSet, Begins, ApplyPrefixSet, Composable, ComposePrefixSet, longPair}
 use Rattle.model.specs.translation.PairState.{PairState, notPair, pairOf, stateOf}
-use Rattle.model.specs.calls.Refusals.{_⇒_, outcome, first, over}
-use Rattle.model.specs.calls.KeyCalls.{noRoom, sizeCauses}
-use Rattle.model.specs.calls.PairCalls.{thereNumber, reverseCauses, reversePair, applyCauses, applyAnswer, applyLeaves}
-use Rattle.model.specs.calls.PairCalls.{composition, composeCauses, composeAnswer, composePair}
+use Rattle.model.specs.calls.Refusals.{outcome, first, over}
+use Rattle.model.specs.calls.KeyCalls.{sizeCauses}
+use Rattle.model.specs.calls.PairCalls.{thereNumber, reversePair, applyCauses, applyAnswer, applyLeaves}
+use Rattle.model.specs.calls.PairCalls.{composeCauses, composeAnswer, composePair}
 use Rattle.model.proofs.Lists.{take-over}
-use Rattle.model.proofs.calls.Refusals.{here, later, passed, accepted, value-is, refused, none-here, none-later, or-left, or-right}
+use Rattle.model.proofs.calls.Refusals.{passed, accepted, value-is, none-here, none-later}
 use Rattle.model.proofs.calls.TableCalls.{not-too-long, either-fails}
 use Rattle.model.proofs.translation.PairState.{state-pair, state-wrong}
 use Rattle.model.proofs.translation.PrefixSet.{applied-begins, applied-back, composed-begins, composed-image, both-composable, composed-long}

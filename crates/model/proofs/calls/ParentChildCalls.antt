@@ -1,31 +1,30 @@
 -- Where the question of parent and child is answered yes, each key of the parent's slot, translated, is bounded by the child: by the calls' answers and bytes.
-use mathlib.Core.Path.{_≡_, refl, sym, ap, _∙_}
+use mathlib.Core.Path.{_≡_, refl, sym, _∙_}
 use mathlib.Core.Bool.{Bool, true, false, cond, not, _||_}
 use mathlib.Core.List.{List, [], _∷_, map}
-use mathlib.Core.Option.{Option, none, some}
-use Prim.Native.Nat.{ℕ, zero, suc, _+_, _/_, _≤_}
+use mathlib.Core.Option.{none}
+use Prim.Native.Nat.{ℕ, zero, suc, _/_, _≤_}
 use native.Mathlib.Omega.{arith}
-use borrow.Author.Tests.{ltb-false, not-false}
+use borrow.Author.Tests.{ltb-false}
 use lib.Dec.{eqb}
 use lib.ListN.{length, take, drop, getD}
 use Rattle.model.specs.declared.Refusal.{Refusal}
-use Rattle.model.specs.declared.Refusal.the-variants.{Shape, Malformed, Unsorted, EmptyPrefix, NoSuchSlot, TooLong}
+use Rattle.model.specs.declared.Refusal.the-variants.{Unsorted, EmptyPrefix, TooLong}
 use Rattle.model.specs.declared.Answer.the-variants as answers
-use Rattle.model.specs.declared.Decided.{Decided}
 use Rattle.model.specs.declared.Decided.the-variants as decided
 use Rattle.model.specs.keys.Key.{Key, Bytes, maxLen, tooLong}
 use Rattle.model.specs.records.Record.{edge, noEdge, recordSize, noEdgeMark, lengthField, keyBytes, edgeOf, pieces, records, elements, edges}
 use Rattle.model.specs.tables.Tables.{edgeAt, IsStrictlySorted, BoundedKey, Route}
 use Rattle.model.specs.translation.Translation.{TranslateKey}
 use Rattle.model.specs.translation.ParentChild.{ParentKeysInChildRange}
-use Rattle.model.specs.calls.Refusals.{_⇒_, outcome, first, yesOrNo, decision, over}
+use Rattle.model.specs.calls.Refusals.{_⇒_, outcome, first, yesOrNo, over}
 use Rattle.model.specs.calls.KeyCalls.{sizeCauses}
 use Rattle.model.specs.calls.TableCalls.{notPivotCount, notEdgeCount, pivotsRead, edgesRead, edgesStand, pivotCauses, keyCauses, boundedKeyAnswer}
 use Rattle.model.specs.calls.TranslationCalls.{translateCauses, translateKeyCauses, translateKeyAnswer, translateKeyLeaves}
 use Rattle.model.specs.calls.ParentChildCalls.{threeTablesCauses, parentChildCauses, parentChildAnswer}
 use Rattle.model.proofs.Lists.{take-over}
 use Rattle.model.proofs.keys.Key.{bytes-take, bytes-drop}
-use Rattle.model.proofs.calls.Refusals.{passed, accepted, value-is, unrefused, none-here, none-later, none-before, none-after}
+use Rattle.model.proofs.calls.Refusals.{passed, accepted, value-is, unrefused, none-here, none-before, none-after}
 use Rattle.model.proofs.calls.TableCalls.{either-fails, causes-shape, causes-wrong, table-wf, table-bytes, not-too-long}
 use Rattle.model.proofs.calls.CutCalls.{cut-table, cut-inside}
 use Rattle.model.proofs.translation.ParentChild.{parent-child-bounded}

@@ -1,9 +1,9 @@
 -- What accepted calls leave: a renamed range, renamed pivots and filled edges read back, and the pivots pass the check.
-use mathlib.Core.Path.{_≡_, refl, sym, ap, _∙_}
-use mathlib.Core.Bool.{Bool, true, false, not, _&&_, _||_}
+use mathlib.Core.Path.{_≡_, refl, sym, _∙_}
+use mathlib.Core.Bool.{true, false, not, _&&_, _||_}
 use mathlib.Core.List.{List, [], _∷_}
-use mathlib.Core.Option.{Option, none, some}
-use Prim.Native.Nat.{ℕ, _+_, _*_, _-_, _≤_, _<_}
+use mathlib.Core.Option.{none}
+use Prim.Native.Nat.{ℕ, _*_, _<_}
 use native.Mathlib.Omega.{arith}
 use borrow.Author.Tests.{not-false}
 use lib.ListN.{length, take}
@@ -12,11 +12,10 @@ use Rattle.model.specs.declared.Refusal.{Refusal}
 use Rattle.model.specs.declared.Refusal.the-variants.{Shape, Malformed, NotPrefix, TooLong, NotBelow, NoRoom}
 use Rattle.model.specs.declared.Answer.the-variants as answers
 use Rattle.model.specs.keys.Key.{Key, tooLong, IsPrefix}
-use Rattle.model.specs.keys.Order.{key, max, lt}
+use Rattle.model.specs.keys.Order.{max, lt}
 use Rattle.model.specs.records.Record.{recordSize, element, elements, edges, encodeAll, encodeEdges}
-use Rattle.model.specs.tables.Tables.{PivotTable, EdgeTable, NumBuckets, maxPivots, pivotAt, keyOf, all, shortElement, shortEdge, WFPivots}
-use Rattle.model.specs.translation.Renaming.{Bounds}
-use Rattle.model.specs.calls.Refusals.{Cause, _⇒_, first, answer, leaves, over}
+use Rattle.model.specs.tables.Tables.{NumBuckets, pivotAt, keyOf, all, shortElement, shortEdge, WFPivots}
+use Rattle.model.specs.calls.Refusals.{Cause, _⇒_, first, leaves, over}
 use Rattle.model.specs.calls.KeyCalls.{notRecord, notElement, noRoom}
 use Rattle.model.specs.calls.TableCalls.{pivotCauses, tableCauses}
 use Rattle.model.specs.calls.RenamingCalls.{newBounds, longBounds, bothBounds, pivotPairCauses, pivotPairAnswer, pivotPairLeaves}

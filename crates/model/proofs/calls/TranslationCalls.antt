@@ -2,19 +2,16 @@
 use mathlib.Core.Path.{_≡_, refl, sym, ap, _∙_}
 use mathlib.Core.Bool.{true, false}
 use mathlib.Core.List.{List}
-use mathlib.Core.Option.{Option, none, some}
-use Prim.Native.Nat.{ℕ, _+_, _≤_}
-use native.Mathlib.Omega.{arith}
+use mathlib.Core.Option.{none}
+use Prim.Native.Nat.{ℕ, _≤_}
 use borrow.Author.Tests.{leb-true, le-leb}
 use lib.ListN.{length}
 use Rattle.model.specs.declared.Refusal.{Refusal}
 use Rattle.model.specs.declared.Answer.the-variants as answers
-use Rattle.model.specs.keys.Key.{Key, Bytes, maxLen, tooLong, IsPrefix}
-use Rattle.model.specs.keys.Order.{Element, key}
+use Rattle.model.specs.keys.Key.{Key, Bytes, maxLen, IsPrefix}
 use Rattle.model.specs.records.Record.{Edge, edge, noEdge, elements, edges}
-use Rattle.model.specs.ranges.RangePrefix.{PivotLcp}
 use Rattle.model.specs.tables.Tables.{pivotAt, edgeAt, shortElement, shortEdge, Route, CutoffForRight}
-use Rattle.model.specs.translation.PrefixSet.{PrefixSet, Begins, ApplyPrefixSet, longPair}
+use Rattle.model.specs.translation.PrefixSet.{Begins, ApplyPrefixSet, longPair}
 use Rattle.model.specs.translation.PairState.{stateOf, pairOf}
 use Rattle.model.specs.translation.Translation.{edgePair, Translate, TranslateKey}
 use Rattle.model.specs.calls.Refusals.{outcome, first, over}
@@ -22,7 +19,7 @@ use Rattle.model.specs.calls.KeyCalls.{sizeCauses}
 use Rattle.model.specs.calls.PairCalls.{thereNumber, applyCauses, applyAnswer, applyLeaves}
 use Rattle.model.specs.calls.TranslationCalls.{translateCauses, translateAnswer, translatePair, translateKeyCauses, translateKeyAnswer, translateKeyLeaves}
 use Rattle.model.proofs.tables.SlotPrefix.{range-prefix-short}
-use Rattle.model.proofs.calls.Refusals.{passed, after, accepted}
+use Rattle.model.proofs.calls.Refusals.{passed, after}
 use Rattle.model.proofs.calls.TableCalls.{not-too-long}
 use Rattle.model.proofs.calls.CutCalls.{cut-key, cut-left-key, cut-left-short, cut-old-edge, cut-edge-short, cut-begins}
 use Rattle.model.proofs.calls.PairCalls.{only-state-sizes}

@@ -1,6 +1,6 @@
 -- Changing a prefix: the new one begins the changed key, changing it back undoes it, and keys that begin with it keep their order.
 use mathlib.Core.Path.{_≡_, refl, sym, ap, _∙_}
-use mathlib.Core.Bool.{Bool, true, not}
+use mathlib.Core.Bool.{true, not}
 use mathlib.Core.List.{[], _∷_, _++_}
 use native.Mathlib.Omega.{arith}
 use lib.ListN.{length, drop}
@@ -8,7 +8,7 @@ use lib.Seq.{drop-append-seam}
 use Rattle.model.specs.keys.Key.{Key, Bytes, IsPrefix, changePrefix}
 use Rattle.model.specs.keys.Order.{key, lte, lt}
 use Rattle.model.proofs.keys.Key.{prefix-next, prefix-append, prefix-split, bytes-append, bytes-drop}
-use Rattle.model.proofs.keys.Order.{Lte, start, less, next, Lt, start<, less<, next<, to-Lte, to-Lt, lteKey-same, lt-false}
+use Rattle.model.proofs.keys.Order.{Lte, less, next, Lt, less<, next<, to-Lte, to-Lt, lteKey-same, lt-false}
 
 module _ (p q k : Key) where
   -- the new prefix begins the changed key

@@ -1,23 +1,21 @@
 -- Several records.
 use mathlib.Core.Path.{_≡_, refl, ap}
-use mathlib.Core.Bool.{Bool, true, _&&_}
+use mathlib.Core.Bool.{Bool, true}
 use mathlib.Core.List.{List, [], _∷_, _++_, map, append-assoc}
 use Prim.Native.Nat.{ℕ, zero, suc, _+_, _*_, _/_, _≤_, _<_}
 use native.Mathlib.Omega.{arith}
 use native.Mathlib.Nat.{mul-div-cancel, zero-mul}
-use borrow.Author.Tests.{leb-true, eqb-true}
-use lib.Dec.{leb, eqb}
 use lib.ListN.{length, take, drop, getD, length-append, length-drop, take-append-drop}
 use lib.Seq.{length-take-le, take-at, drop-at, drop-drop}
-use Rattle.model.specs.keys.Key.{Bytes, maxLen}
+use Rattle.model.specs.keys.Key.{Bytes}
 use Rattle.model.specs.keys.Order.{Element}
-use Rattle.model.specs.records.Record.{Edge, recordSize, reading, elementReading, edgeReading, recordOf, encode, encodeEdge, element, edgeOf}
+use Rattle.model.specs.records.Record.{Edge, recordSize, reading, elementReading, edgeReading, encode, encodeEdge, element, edgeOf}
 use Rattle.model.specs.records.Record.{pieces, joined, records, elements, edges, encodeAll, encodeEdges}
 use Rattle.model.specs.tables.Tables.{all, shortElement, shortEdge}
 use Rattle.model.proofs.Lists.{all-parts}
 use Rattle.model.proofs.keys.Key.{both, bytes-take, bytes-drop}
-use Rattle.model.proofs.records.Record.{length-record, length-encode, length-encodeEdge, element-encode, edge-encode}
-use Rattle.model.proofs.records.Record.{bytes-record, encode-element, encode-edge}
+use Rattle.model.proofs.records.Record.{length-encode, length-encodeEdge, element-encode, edge-encode}
+use Rattle.model.proofs.records.Record.{encode-element, encode-edge}
 
 -- ---- values written one after the other, each in s bytes
 

@@ -1,7 +1,7 @@
 -- "The prefix that we replace is the longest that all keys of that shelf share": the prefix of a slot's range, by the keys that Route sends to the slot.
-use mathlib.Core.Path.{_≡_, refl, sym, _∙_}
+use mathlib.Core.Path.{_≡_, sym}
 use mathlib.Core.Bool.{true}
-use Prim.Native.Nat.{ℕ, _+_, _-_, _≤_, _<_}
+use Prim.Native.Nat.{ℕ, _+_, _≤_, _<_}
 use native.Mathlib.Omega.{arith}
 use borrow.Author.Tests.{leb-true}
 use lib.ListN.{length}
@@ -10,7 +10,7 @@ use Rattle.model.specs.keys.Order.{Element, key, max, lte, lt}
 use Rattle.model.specs.ranges.RangePrefix.{PivotLcp, InBetween}
 use Rattle.model.specs.tables.Tables.{PivotTable, NumBuckets, pivotAt, shortElement, WFPivots, BoundedKey, Route, GetKey}
 use Rattle.model.proofs.keys.Key.{both, prefix-length}
-use Rattle.model.proofs.ranges.RangePrefix.{BytesE, prefix-of-left, shared, longest}
+use Rattle.model.proofs.ranges.RangePrefix.{prefix-of-left, shared, longest}
 use Rattle.model.proofs.tables.Places.{sorted-at}
 use Rattle.model.proofs.tables.Routing.{wf-sorted, wf-keys, wf-short, get-key, route-between, slot-bounded, slot-is-route}
 use Rattle.model.proofs.cuts.Between.{BytesT, bytes-at}

@@ -1,9 +1,9 @@
 -- A pair's record of 133 bytes: what is written is read back.
-use mathlib.Core.Path.{_≡_, refl, sym, _∙_}
-use mathlib.Core.Bool.{Bool, true, false, _||_}
-use mathlib.Core.List.{List, [], _∷_, _++_}
+use mathlib.Core.Path.{_≡_, refl}
+use mathlib.Core.Bool.{Bool, true, false}
+use mathlib.Core.List.{List, [], _∷_}
 use mathlib.Core.Option.{Option, none, some}
-use Prim.Native.Nat.{ℕ, _+_, _*_, _/_, _%_, _≤_, _<_}
+use Prim.Native.Nat.{ℕ, _/_, _%_, _≤_, _<_}
 use native.Mathlib.Omega.{arith}
 use borrow.Author.Tests.{ltb-false, lt-ltb}
 use lib.Dec.{eqb, ltb}
@@ -12,7 +12,7 @@ use lib.Seq.{take-at, drop-at, take-all}
 use Rattle.model.specs.keys.Key.{Key, maxLen, tooLong}
 use Rattle.model.specs.records.Record.{lengthField, padded}
 use Rattle.model.specs.translation.PrefixSet.{PrefixSet, pair, longPair}
-use Rattle.model.specs.translation.PairState.{PairState, notPair, stateWith, stateOf}
+use Rattle.model.specs.translation.PairState.{notPair, stateWith, stateOf}
 use Rattle.model.specs.translation.PairRecord.{pairSize, stateAt, wrongPair, flag, encodeState, encodePair}
 use Rattle.model.proofs.calls.Refusals.{or-left}
 use Rattle.model.proofs.calls.TableCalls.{either-fails}

@@ -2,13 +2,12 @@
 use mathlib.Core.Path.{_≡_, refl}
 use mathlib.Core.Option.{Option, none, some}
 use native.Mathlib.Omega.{arith}
-use Prim.Native.Nat.{ℕ, _≤_}
-use borrow.Author.Tests.{ltb-false}
+use Prim.Native.Nat.{_≤_}
 use lib.ListN.{length, take, length-append, length-replicate}
 use lib.Seq.{take-append-seam}
-use mathlib.Core.Bool.{true, false, _||_}
-use Rattle.model.specs.keys.Key.{Key, maxLen, tooLong}
-use Rattle.model.specs.records.Record.{zeros, padded}
+use mathlib.Core.Bool.{false}
+use Rattle.model.specs.keys.Key.{Key, maxLen}
+use Rattle.model.specs.records.Record.{padded}
 use Rattle.model.specs.translation.PrefixSet.{PrefixSet, longPair}
 use Rattle.model.specs.translation.PairState.{PairState, notPair, pairOf, stateWith, stateOf}
 

@@ -1,20 +1,20 @@
 -- Parent and child: the source's two cases, and what a yes is for.
 use mathlib.Core.Path.{_≡_, refl, sym, _∙_}
-use mathlib.Core.Bool.{Bool, true}
+use mathlib.Core.Bool.{true}
 use Prim.Native.Nat.{ℕ, _+_, _<_}
 use native.Mathlib.Omega.{arith}
 use Rattle.model.specs.keys.Key.{Key, Bytes, changePrefix}
-use Rattle.model.specs.keys.Order.{Element, key, max, lte, lt}
+use Rattle.model.specs.keys.Order.{key, lte, lt}
 use Rattle.model.specs.records.Record.{Edge, edge, noEdge}
 use Rattle.model.specs.ranges.RangePrefix.{PivotLcp, InBetween}
 use Rattle.model.specs.tables.Tables.{PivotTable, EdgeTable, NumBuckets, pivotAt, edgeAt, WFPivots, BoundedKey, Route, ContainsRange, GetKey}
 use Rattle.model.specs.translation.PrefixSet.{ApplyPrefixSet}
 use Rattle.model.specs.translation.Translation.{edgePair, Translate, TranslateKey}
-use Rattle.model.specs.translation.Renaming.{Bounds, TranslatePivotPairInternal}
+use Rattle.model.specs.translation.Renaming.{TranslatePivotPairInternal}
 use Rattle.model.specs.translation.ParentChild.{boundsUnder, slotBounds, ParentKeysInChildRange}
 use Rattle.model.proofs.keys.Key.{both}
 use Rattle.model.proofs.tables.Places.{sorted-at}
-use Rattle.model.proofs.tables.Routing.{wf-sorted, wf-keys, get-key, route-inside, route-from, route-below, route-between, contains-range-bounded}
+use Rattle.model.proofs.tables.Routing.{wf-sorted, wf-keys, get-key, route-inside, route-between, contains-range-bounded}
 use Rattle.model.proofs.cuts.Between.{BytesT, bytes-at}
 use Rattle.model.proofs.translation.PivotPair.{pair-fills}
 

@@ -1,8 +1,8 @@
 -- A range under another prefix: its bounds rise, every key between them begins with the new prefix, and the keys of the range fill it exactly.
 use mathlib.Core.Path.{_≡_, refl, sym, ap, _∙_}
-use mathlib.Core.Bool.{Bool, true, false, cond, not, _&&_, true≢false}
+use mathlib.Core.Bool.{Bool, true, false, cond, _&&_, true≢false}
 use mathlib.Core.List.{_++_}
-use Prim.Native.Nat.{ℕ, _+_, _-_, _≤_}
+use Prim.Native.Nat.{_+_, _-_, _≤_}
 use native.Mathlib.Omega.{arith}
 use borrow.Author.Tests.{le-leb}
 use lib.Dec.{leb}
@@ -12,9 +12,9 @@ use Rattle.model.specs.keys.Order.{Element, key, max, lte, lt}
 use Rattle.model.specs.ranges.RangePrefix.{PivotLcp, InBetween}
 use Rattle.model.specs.ranges.UpperBound.{ShortestUncommonPrefix}
 use Rattle.model.specs.tables.Tables.{shortElement}
-use Rattle.model.specs.translation.Renaming.{Bounds, TranslateElement, translateRight, TranslatePivotPairInternal}
+use Rattle.model.specs.translation.Renaming.{TranslateElement, translateRight, TranslatePivotPairInternal}
 use Rattle.model.proofs.keys.Key.{both, length-change, prefix-split, prefix-is-take, bytes-take}
-use Rattle.model.proofs.keys.Order.{lte-trans, lte-antisym, lt-false, false-lt, lt-lte, max-above, refuted}
+use Rattle.model.proofs.keys.Order.{lte-trans, lte-antisym, false-lt, lt-lte, max-above, refuted}
 use Rattle.model.proofs.keys.ChangePrefix.{change-begins, change-undone, change-bytes, change-lte, change-lt, between-shares}
 use Rattle.model.proofs.ranges.RangePrefix.{prefix-lte, prefix-of-left, shared}
 use Rattle.model.proofs.ranges.UpperBound.{upper-exact, upper-short}

@@ -1,13 +1,13 @@
 -- Pivots and edges under another prefix: the clauses of TranslatePivots and TranslateEdges, place by place.
 use mathlib.Core.Path.{_≡_, refl, sym, ap, _∙_}
-use mathlib.Core.Bool.{Bool, true, false, false≢true}
-use mathlib.Core.List.{List, [], _∷_, _++_, map}
+use mathlib.Core.Bool.{true, false≢true}
+use mathlib.Core.List.{List, [], _∷_, map}
 use mathlib.Core.Logic.{⊎-elim}
 use Prim.Native.Nat.{ℕ, zero, suc, _+_, _-_, _≤_, _<_}
 use native.Mathlib.Numerals.{add-one}
 use native.Mathlib.Omega.{arith}
 use borrow.Author.Tests.{le-leb}
-use lib.ListN.{length, take, drop, getD, length-append, length-drop, length-map, List·getD-append}
+use lib.ListN.{length, take, drop, length-append, length-drop, length-map, List·getD-append}
 use lib.Seq.{length-take-le, take-all, drop-append-le, getD-take, getD-at}
 use Rattle.model.specs.keys.Key.{Key, maxLen, IsPrefix, changePrefix}
 use Rattle.model.specs.keys.Order.{Element, key, max, isKey, lt}

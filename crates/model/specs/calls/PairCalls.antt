@@ -1,5 +1,5 @@
 -- The methods of a pair by value: for each its causes in order, its answer and the pair beside it, or what it leaves in its destination.
-use mathlib.Core.Bool.{Bool, not, _||_}
+use mathlib.Core.Bool.{not, _||_}
 use mathlib.Core.List.{List, [], _∷_}
 use mathlib.Core.Option.{Option, none, some}
 use Prim.Native.Nat.{ℕ}
