@@ -7,4 +7,5 @@ pub mod tables
 pub mod cuts
 pub mod translation
 pub mod buckets
+pub mod list
 pub mod Rows

@@ -1,13 +1,14 @@
--- The sixteen rows hold, T's list is the one in document 01, and T's pivots are renamed.
+-- The sixteen rows hold, T's list is the one in document 01, T's pivots are renamed, and 4 comes before 5.
 use mathlib.Core.Path.{_≡_, refl}
 use mathlib.Core.List.{[], _∷_, _++_}
 use Prim.Native.Nat.{_*_}
-use Rattle.model.specs.declared.Answer.the-variants.{Value}
+use Rattle.model.specs.declared.Answer.the-variants.{Value, Refused}
+use Rattle.model.specs.declared.Refusal.the-variants.{EmptyPrefix}
 use Rattle.model.specs.keys.Key.{changePrefix, IsPrefix}
 use Rattle.model.specs.keys.Order.{key, lteKey, lte, lastPlace, LargestLte, LargestLt}
 use Rattle.model.specs.ranges.RangePrefix.{lcpright, lcp, PivotLcp}
 use Rattle.model.specs.ranges.UpperBound.{raisedAt, uncommonFrom, ShortestUncommonPrefix}
-use Rattle.model.specs.records.Record.{lengthField, allZero, fieldReading, reading, keyBytes, element, edgeOf, recordOf, encode, encodeEdge}
+use Rattle.model.specs.records.Record.{edge, lengthField, allZero, fieldReading, reading, keyBytes, element, edgeOf, recordOf, encode, encodeEdge}
 use Rattle.model.specs.records.Record.{recordSize, zeros, pieces, joined, records, elements, edges, encodeAll, encodeEdges}
 use Rattle.model.specs.tables.Tables.{all, risesFrom, IsStrictlySorted, edgesFit, WFEdges, Route, CutoffForLeft, CutoffForRight}
 use Rattle.model.specs.cuts.Cuts.{SplitLeft, SplitRight, cutEdge, edgeWithin, SplitLeftEdges, SplitRightEdges}
@@ -15,6 +16,7 @@ use Rattle.model.specs.translation.PrefixSet.{RevPrefixSet, ApplyPrefixS
 use Rattle.model.specs.translation.Renaming.{TranslateElement, translateRight, TranslatePivotPairInternal, TranslatePivots}
 use Rattle.model.specs.calls.Refusals.{outcome}
 use Rattle.model.specs.calls.TableCalls.{notPivotCount, notEdgeCount, pivotsRead, edgesRead, pivotCauses, tableCauses}
+use Rattle.model.specs.calls.TranslationCalls.{translateKeyAnswer}
 use Rattle.model.specs.calls.RenamingCalls.{pivotsAnswer}
 use Rattle.model.specs.list.ShelfList.{header, dash, digit, decimal, hex, keyText, elementText, edgeText, slotLine, slotLines, tableText}
 use Rattle.model.specs.list.ShelfList.{listPivots, listEdges, notListSize, listCauses, shelfList}
@@ -33,3 +35,8 @@ list-of-T = refl
 pub renaming-of-T : pivotsAnswer (encodeAll pivotsT) (0x41 ∷ []) (0x43 ∷ []) (encode (key (0x44 ∷ []))) (zeros (3 * recordSize)) ≡ Value 3
 unfolding outcome pivotCauses notPivotCount pivotsRead records pieces elements encodeAll encode recordOf joined reading fieldReading lengthField allZero element keyBytes IsStrictlySorted risesFrom lte lteKey all IsPrefix changePrefix TranslateElement TranslatePivots
 renaming-of-T = refl
+
+-- 4 comes before 5: the key 50 lies past the pivots 41 and 43, whose edge stands over an empty prefix
+pub four-before-five : translateKeyAnswer (encodeAll (key (0x41 ∷ []) ∷ key (0x43 ∷ []) ∷ [])) (encodeEdges (edge (0x50 ∷ []) ∷ [])) (0x50 ∷ []) [] ≡ Refused EmptyPrefix
+unfolding outcome tableCauses pivotCauses notPivotCount notEdgeCount pivotsRead edgesRead records pieces elements edges encodeAll encodeEdges encode encodeEdge recordOf joined reading fieldReading lengthField allZero element edgeOf keyBytes IsStrictlySorted risesFrom lte lteKey all WFEdges edgesFit PivotLcp lcp lcpright
+four-before-five = refl

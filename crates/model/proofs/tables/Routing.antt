@@ -1,6 +1,6 @@
 -- Well-formed pivot tables: each bounded key lies in one slot, which is its route; the slot of a left cut-off; which keys a table bounds.
 use mathlib.Core.Path.{_≡_, refl, sym, ap, _∙_}
-use mathlib.Core.Bool.{Bool, true, false, not, _&&_, false≢true}
+use mathlib.Core.Bool.{Bool, true, false, not, _&&_, true≢false, false≢true}
 use mathlib.Core.List.{[], _∷_}
 use Prim.Native.Nat.{ℕ, _+_, _-_, _≤_, _<_}
 use native.Mathlib.Nat.{le-refl}
@@ -8,14 +8,14 @@ use native.Mathlib.Omega.{arith}
 use borrow.Author.Tests.{ltb-true, lt-ltb, le-ltb, leb-true, le-leb, not-false}
 use lib.Dec.{ltb, leb}
 use lib.ListN.{length, take}
-use Rattle.model.specs.keys.Key.{Key}
+use Rattle.model.specs.keys.Key.{Key, maxLen}
 use Rattle.model.specs.keys.Order.{Element, key, max, isKey, lteKey, lte, lt, same, passes, lastPlace, LargestLte, LargestLt}
 use Rattle.model.specs.ranges.RangePrefix.{InBetween}
 use Rattle.model.specs.tables.Tables.{PivotTable, pivotAt, lastPivot, NumBuckets, all, shortElement, minPivots, risesFrom, IsStrictlySorted, WFPivots}
 use Rattle.model.specs.tables.Tables.{InitPivotTable, ContainsAllKeys, ContainsRange}
 use Rattle.model.specs.tables.Tables.{BoundedKey, ValidLeftCutOffKey, Route, CutoffForLeft, CutoffForRight, keyOf, GetKey}
 use Rattle.model.proofs.Lists.{all-at}
-use Rattle.model.proofs.keys.Order.{lte-refl, lte-trans, lt-false, lt-trans-lte, below-key, max-above}
+use Rattle.model.proofs.keys.Order.{lte-refl, lte-trans, lte-max, lt-false, false-lt, lt-lte, lt-trans-lte, below-key, max-above}
 use Rattle.model.proofs.tables.Places.{sorted-head, sorted-tail, sorted-at, place-turn, place-at, place-le, passes-more, within, within-place, bounded-within, valid-within}
 use Rattle.model.proofs.keys.Key.{both}
 
@@ -264,3 +264,28 @@ unfolding ContainsRange
 contains-range-bounded pt l r k h f g =
     let a = both (lte (pivotAt pt 0) l) (lte r (lastPivot pt)) h in
     bounded-by pt k (lte-trans (pivotAt pt 0) l (key k) (a .0) f) (lt-trans-lte (key k) r (lastPivot pt) g (a .1))
+
+-- and one that bounds every key of at most 64 bytes of a range contains the range
+module _ (pt : PivotTable) (l : Key) (r : Element) (w : WFPivots pt ≡ true) (s : length l ≤ maxLen) (h : lt (key l) r ≡ true)
+    (f : (k : Key) → length k ≤ maxLen → lte (key l) (key k) ≡ true → lt (key k) r ≡ true → BoundedKey pt k ≡ true) where
+  left-bounded : (lte (pivotAt pt 0) (key l) ≡ true) × (lt (key l) (lastPivot pt) ≡ true)
+  unfolding BoundedKey
+  left-bounded = both (lte (pivotAt pt 0) (key l)) (lt (key l) (lastPivot pt)) (f l s (lte-refl (key l)) h)
+
+  reaches : (u : Element) → lastPivot pt ≡ u → shortElement u ≡ true → lte r u ≡ true
+  unfolding BoundedKey
+  reaches max e b = lte-max r
+  reaches (key k) e b = go (lte r (key k)) refl
+    where
+      go : (t : Bool) → lte r (key k) ≡ t → t ≡ true
+      go true c = refl
+      go false c =
+          let d = f k (leb-true (length k) maxLen b) (lt-lte (key l) (key k) (rw e at (left-bounded .1))) (false-lt (key k) r c) in
+          let a = both (lte (pivotAt pt 0) (key k)) (lt (key k) (lastPivot pt)) d in
+          absurd (true≢false (sym (lte-refl (key k)) ∙ lt-false (key k) (key k) (rw e at (a .1))))
+
+  pub bounded-contains-range : ContainsRange pt (key l) r ≡ true
+  unfolding ContainsRange
+  bounded-contains-range =
+      let n = wf-count pt w in
+      rw (left-bounded .0) (reaches (lastPivot pt) refl (wf-short pt w (NumBuckets pt) (omega arith)))
