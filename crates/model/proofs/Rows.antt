@@ -1,9 +1,9 @@
--- The sixteen rows hold, T's list is the one in document 01, T's pivots are renamed, and 4 comes before 5.
+-- The sixteen rows hold, T's list is the one in document 01, T's pivots are renamed, 4 comes before 5, and what a bucket's destination must hold.
 use mathlib.Core.Path.{_≡_, refl}
-use mathlib.Core.List.{[], _∷_, _++_}
-use Prim.Native.Nat.{_*_}
+use mathlib.Core.List.{List, [], _∷_, _++_}
+use Prim.Native.Nat.{ℕ, _*_}
 use Rattle.model.specs.declared.Answer.the-variants.{Value, Refused}
-use Rattle.model.specs.declared.Refusal.the-variants.{EmptyPrefix}
+use Rattle.model.specs.declared.Refusal.the-variants.{EmptyPrefix, NoRoom}
 use Rattle.model.specs.keys.Key.{changePrefix, IsPrefix}
 use Rattle.model.specs.keys.Order.{key, lteKey, lte, lastPlace, LargestLte, LargestLt}
 use Rattle.model.specs.ranges.RangePrefix.{lcpright, lcp, PivotLcp}
@@ -18,6 +18,8 @@ use Rattle.model.specs.calls.Refusals.{outcome}
 use Rattle.model.specs.calls.TableCalls.{notPivotCount, notEdgeCount, pivotsRead, edgesRead, pivotCauses, tableCauses}
 use Rattle.model.specs.calls.TranslationCalls.{translateKeyAnswer}
 use Rattle.model.specs.calls.RenamingCalls.{pivotsAnswer}
+use Rattle.model.specs.buckets.Bucket.{Entry, entryBytes, entries, entryOf, encodeEntry, encodeBucket, TranslateBucket}
+use Rattle.model.specs.calls.BucketCalls.{notEntryCount, entriesRead, bucketCauses, neededBytes, translateBucketAnswer}
 use Rattle.model.specs.list.ShelfList.{header, dash, digit, decimal, hex, keyText, elementText, edgeText, slotLine, slotLines, tableText}
 use Rattle.model.specs.list.ShelfList.{listPivots, listEdges, notListSize, listCauses, shelfList}
 use Rattle.model.specs.Rows.{AllHold, rows, pivotsT, inputT, linesT}
@@ -40,3 +42,14 @@ renaming-of-T = refl
 pub four-before-five : translateKeyAnswer (encodeAll (key (0x41 ∷ []) ∷ key (0x43 ∷ []) ∷ [])) (encodeEdges (edge (0x50 ∷ []) ∷ [])) (0x50 ∷ []) [] ≡ Refused EmptyPrefix
 unfolding outcome tableCauses pivotCauses notPivotCount notEdgeCount pivotsRead edgesRead records pieces elements edges encodeAll encodeEdges encode encodeEdge recordOf joined reading fieldReading lengthField allZero element edgeOf keyBytes IsStrictlySorted risesFrom lte lteKey all WFEdges edgesFit PivotLcp lcp lcpright
 four-before-five = refl
+
+-- three entries of 70 bytes with the key 41, none kept: a destination of 209 bytes is 10, one of 210 is taken
+abbrev pub entry41 : Entry
+entry41 = record { key = 0x41 ∷ []; number = 0 ∷ 0 ∷ 0 ∷ 1 ∷ [] }
+
+abbrev pub threeEntries : List ℕ
+threeEntries = encodeBucket (entry41 ∷ entry41 ∷ entry41 ∷ [])
+
+pub room-of-three : (translateBucketAnswer threeEntries (0x42 ∷ []) [] (zeros 209) ≡ Refused NoRoom) × (translateBucketAnswer threeEntries (0x42 ∷ []) [] (zeros 210) ≡ Value 0)
+unfolding outcome bucketCauses notEntryCount entriesRead neededBytes entryBytes entries entryOf pieces encodeBucket encodeEntry joined recordOf reading fieldReading lengthField allZero keyBytes all IsPrefix TranslateBucket
+room-of-three = (refl, refl)
