@@ -1,1 +1,2 @@
 pub mod ShelfList
+pub mod Length
