@@ -1,7 +1,7 @@
 -- How long a list can be: 32,715 bytes, the header and 63 lines with keys of 64 bytes.
 use mathlib.Core.Path.{_≡_, refl, sym}
 use mathlib.Core.Bool.{Bool, true, false, cond}
-use mathlib.Core.List.{List, [], _∷_, _++_}
+use mathlib.Core.List.{List, [], _∷_}
 use mathlib.Core.Logic.{⊎-elim}
 use mathlib.Core.Option.{Option, none, some}
 use Prim.Native.Nat.{ℕ, suc, _+_, _*_, _-_, _/_, _%_, _≤_, _<_}
@@ -16,8 +16,8 @@ use Rattle.model.specs.records.Record.{Edge, edge, noEdge, elements, edg
 use Rattle.model.specs.ranges.RangePrefix.{PivotLcp}
 use Rattle.model.specs.tables.Tables.{PivotTable, EdgeTable, maxPivots, all, shortElement, shortEdge}
 use Rattle.model.specs.calls.Refusals.{Cause, number, outcome, first}
-use Rattle.model.specs.list.ShelfList.{tab, newline, header, refusedWord, maxWord, dash, digit, decimal, hex, keyText, elementText, edgeText, slotLine, slotLines, tableText}
-use Rattle.model.specs.list.ShelfList.{listPivots, listEdges, notListSize, listCauses, refusedText, shelfList}
+use Rattle.model.specs.list.ShelfList.{newline, header, refusedWord, maxWord, dash, digit, decimal, hex, keyText, elementText, edgeText, slotLine, slotLines, tableText}
+use Rattle.model.specs.list.ShelfList.{listPivots, listEdges, listCauses, refusedText, shelfList}
 use Rattle.model.proofs.Lists.{le-or-lt}
 use Rattle.model.proofs.keys.Key.{both}
 use Rattle.model.proofs.calls.Refusals.{refused-by, passed}
