@@ -1,0 +1,4 @@
+pub mod Composing
+pub mod Padding
+pub mod Results
+pub mod States
