@@ -12,8 +12,6 @@ use mir.Val.{Fits}
 use mir.Syntax.{w8}
 use Rattle.model.specs.declared.Refusal.{Refusal}
 use Rattle.model.specs.declared.Answer.{Answer}
-use Rattle.model.specs.declared.Answer.the-variants as answers
-use Rattle.model.specs.declared.Routed.the-variants as routed
 use Rattle.model.specs.keys.Key.{maxLen, IsPrefix, changePrefix}
 use Rattle.model.specs.keys.Order.{key}
 use Rattle.model.specs.records.Record.{noEdge, edge, noEdgeMark, lengthField, keyBytes, element, edgeOf, elements}
@@ -30,6 +28,7 @@ use Rattle.model.proofs.keys.Key.{prefix-is-take, bytes-of}
 use Rattle.model.proofs.ranges.RangePrefix.{prefix-of-left}
 use Rattle.model.proofs.calls.CutCalls.{cut-key, cut-left-key, cut-right-element, cut-old-edge, cut-edge-short, cut-begins}
 use Rattle.translation.specs.Translated.{translated}
+use Rattle.translation.proofs.Pairing.{edge-by}
 
 module _ (p e k : List ℕ) (c : ℕ) (h : first (edgeSlotCauses p e k (BoundedKey (elements p) k)) ≡ none) (i : c ≡ CutoffForRight (elements p) k) where
   -- the key is translated by the edge of its slot
@@ -39,8 +38,7 @@ module _ (p e k : List ℕ) (c : ℕ) (h : first (edgeSlotCauses p e k (BoundedK
 
   module _ (a : List ℕ) (t : Bool) (g : a ≡ recordAt e c) (m : t ≡ eqb (lengthField a) noEdgeMark) where
     edge-is : edgeOf (recordAt e c) ≡ cond t noEdge (edge (keyBytes a))
-    unfolding edgeOf
-    edge-is = rw (m, g)
+    edge-is = rw (← g) (edge-by a t m)
 
     -- without an edge it is the key itself
     module _ (d : List ℕ) (u : t ≡ true) where

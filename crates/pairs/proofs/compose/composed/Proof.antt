@@ -1,4 +1,4 @@
--- `pairs::compose::composed` meets its contract.
+-- `pairs::composed` meets its contract.
 use Rattle.model.proofs.Lists.{part-counts}
 use Rattle.pairs.proofs.Composing.{composing}
 use borrow.Author.Needs.{needs}

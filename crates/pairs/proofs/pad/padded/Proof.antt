@@ -1,4 +1,4 @@
--- `pairs::pad::padded` meets its contract.
+-- `pairs::padded` meets its contract.
 use borrow.Author.Needs.{needs}
 use Rattle.pairs.proofs.Padding.{partly, partly-start, partly-turn, partly-end}
 use lib.ListN.{length}

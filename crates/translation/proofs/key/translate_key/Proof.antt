@@ -1,8 +1,8 @@
 -- `translation::translate_key` meets its contract.
 use Rattle.model.proofs.calls.Refusals.{slot-accepted, slot-is, slot-handing-on}
 use borrow.Author.Needs.{needs}
-use Rattle.translation.proofs.translate_key.Statement.{statement}
-use Rattle.translation.proofs.translate_key.Tie as tie
+use Rattle.translation.proofs.key.translate_key.Statement.{statement}
+use Rattle.translation.proofs.key.translate_key.Tie as tie
 
 ruleset rules = (needs, slot-handing-on)
 

@@ -3,8 +3,8 @@ use Rattle.model.proofs.Lists.{part-counts}
 use Rattle.model.proofs.calls.CutCalls.{cut-next-fits}
 use Rattle.translation.proofs.Translating.{kept-answer, kept-written, changed-answer, changed-written}
 use borrow.Author.Needs.{needs}
-use Rattle.translation.proofs.translate_in.Statement.{statement}
-use Rattle.translation.proofs.translate_in.Tie as tie
+use Rattle.translation.proofs.key.translate_in.Statement.{statement}
+use Rattle.translation.proofs.key.translate_in.Tie as tie
 
 ruleset rules = (needs, part-counts, cut-next-fits, kept-answer, kept-written, changed-answer, changed-written)
 
