@@ -98,13 +98,13 @@ module _ (s : PairState) (t : Bool) (e : t ≡ notPair s) (f : t ≡ false) (k d
 -- ---- compose
 
 -- a reversed pair is long where the pair is
-long-reverse : (o : Option PrefixSet) → longPair (RevPrefixSet o) ≡ longPair o
+pub long-reverse : (o : Option PrefixSet) → longPair (RevPrefixSet o) ≡ longPair o
 unfolding longPair RevPrefixSet
 long-reverse none = refl
 long-reverse (some a) = or-comm (tooLong (a .newPrefix)) (tooLong (a .prefix))
 
 -- a pair that a state holds is not long
-not-long : (s : PairState) → notPair s ≡ false → longPair (pairOf s) ≡ false
+pub not-long : (s : PairState) → notPair s ≡ false → longPair (pairOf s) ≡ false
 unfolding longPair
 not-long s f = go (s .there) refl
   where

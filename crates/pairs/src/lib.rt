@@ -8,6 +8,7 @@ use compose::made;
 use model::Answer;
 use model::MAX_LEN;
 use model::Refusal;
+pub use pad::padded;
 ghost use mathlib.Core.Path.{_≡_};
 ghost use mathlib.Core.Option.{none};
 ghost use Rattle.model.specs.inner.Written.{clipped};
@@ -53,8 +54,8 @@ impl PrefixSet {
     {
         let oldlen = scan::least(old.len(), MAX_LEN);
         let newlen = scan::least(new.len(), MAX_LEN);
-        let p = pad::padded(old);
-        let q = pad::padded(new);
+        let p = padded(old);
+        let q = padded(new);
         PrefixSet {
             there: true,
             oldlen,

@@ -5,7 +5,7 @@ ghost use Rattle.model.specs.records.Record.{padded};
 ghost use Rattle.model.specs.inner.Written.{clipped};
 
 // The first 64 bytes of k, and zeros after them.
-pub(crate) fn padded(k: &[u8]) -> [u8; 64]
+pub fn padded(k: &[u8]) -> [u8; 64]
     ensures { λ r. ⌜ r ≡ padded (clipped (now (k .entry))) ⌝ }
 {
     let n = scan::least(k.len(), MAX_LEN);

@@ -1,0 +1,4 @@
+pub mod ByState
+pub mod Lengths
+pub mod Placing
+pub mod Reading

@@ -1,0 +1,103 @@
+-- A result's record in its destination.
+use mathlib.Core.Path.{_≡_, refl, _∙_}
+use mathlib.Core.Bool.{Bool, true, false}
+use mathlib.Core.List.{List, [], _∷_, _++_, map, append-assoc}
+use mathlib.Core.Option.{Option}
+use Prim.Native.Nat.{ℕ, _-_, _/_, _%_, _≤_, _<_, min}
+use native.Mathlib.Omega.{arith}
+use borrow.Author.Needs.{length-unmapped}
+use borrow.Author.Tests.{le-ltb, lt-ltb}
+use borrow.Rule.Slice.PartMut.{putMid}
+use lib.ListN.{length, take, drop, length-append}
+use Rattle.model.specs.declared.Refusal.{Refusal}
+use Rattle.model.specs.declared.Refusal.the-variants.{NoRoom}
+use Rattle.model.specs.declared.Answer.{Answer}
+use Rattle.model.specs.declared.Answer.the-variants as answers
+use Rattle.model.specs.inner.Written.{into}
+use Rattle.model.specs.translation.PrefixSet.{PrefixSet}
+use Rattle.model.specs.translation.PairState.{PairState}
+use Rattle.model.specs.translation.PairRecord.{flag, encodeState}
+use Rattle.model.specs.calls.Refusals.{Cause, _⇒_, outcome, answer, over}
+use Rattle.model.specs.calls.PairCalls.{thereNumber, pairAnswer, pairBeside}
+use Rattle.model.specs.calls.PairRecordCalls.{pairRoom, pairLeaves}
+use Rattle.model.proofs.Lists.{into-over, written-on}
+use Rattle.pair_records.specs.Placed.{placedAnswer, placedLeaves}
+
+-- ---- writing
+
+-- the header and the two arrays are the record
+pub record-written : (y : Bool) (n m : ℕ) (o q d h v w : List ℕ) → length (map (λ (v : ℕ). v) o) ≡ 64 → length (map (λ (v : ℕ). v) q) ≡ 64
+    → 133 ≤ length d → h ≡ flag y ∷ n / 256 ∷ n % 256 ∷ m / 256 ∷ m % 256 ∷ [] → v ≡ into (h ++ o) d
+    → w ≡ into q (take (length v - 69) (drop 69 v))
+    → putMid 69 (length v - 69) v w
+    ≡ over (encodeState (record { there = y; oldLength = n; newLength = m; oldBytes = o; newBytes = q })) d
+unfolding encodeState
+record-written y n m o q d h v w a b c e f g =
+    let i = length-unmapped ℕ o 64 a in
+    let j = length-unmapped ℕ q 64 b in
+    let k : length h ≡ 5 = rw e in
+    let l : length (h ++ o) ≡ 69 = rw length-append (omega arith) in
+    let x : 69 ≡ min (length (h ++ o)) (length d) = omega arith in
+    let z : length ((h ++ o) ++ q) ≤ length d = rw (length-append (h ++ o) q) (omega arith) in
+    written-on 69 (h ++ o) q d v w x f g ∙ into-over ((h ++ o) ++ q) d z ∙ rw (append-assoc h o q, e)
+
+-- ---- an answer and its pair
+
+module _ (a : Answer) (d : List ℕ) where
+  -- a refusal is handed on
+  module _ (r : Refusal) (h : a ≡ answers.Refused r) where
+    pub refused-placed : a ≡ placedAnswer a d
+    unfolding placedAnswer
+    refused-placed = rw h
+
+    pub refused-kept : (s : PairState) → d ≡ placedLeaves a s d
+    unfolding placedLeaves
+    refused-kept s = rw h
+
+  module _ (n : ℕ) (h : a ≡ answers.Value n) where
+    -- without room it is 10
+    module _ (c : length d < 133) where
+      pub crowded-placed : answers.Refused NoRoom ≡ placedAnswer a d
+      unfolding placedAnswer outcome
+      crowded-placed = rw (h, lt-ltb (length d) 133 c)
+
+      pub crowded-kept : (s : PairState) → d ≡ placedLeaves a s d
+      unfolding placedLeaves outcome
+      crowded-kept s = rw (h, lt-ltb (length d) 133 c)
+
+    -- with room the record is written
+    module _ (c : 133 ≤ length d) where
+      pub roomy-placed : a ≡ placedAnswer a d
+      unfolding placedAnswer outcome
+      roomy-placed = rw (h, le-ltb (length d) 133 c)
+
+      pub roomy-written : (s : PairState) (w : List ℕ) → w ≡ over (encodeState s) d → w ≡ placedLeaves a s d
+      unfolding placedLeaves outcome
+      roomy-written s w e = rw (h, le-ltb (length d) 133 c) e
+
+pub ruleset placing = (refused-placed, refused-kept, crowded-placed, crowded-kept, roomy-placed, roomy-written)
+
+-- ---- by the causes of the answer
+
+-- cause 10 comes after the call's own causes
+placed-outcome : (cs : List Cause) (n : ℕ) (d : List ℕ) → placedAnswer (answer cs n) d ≡ answer (cs ++ pairRoom d) n
+unfolding placedAnswer outcome
+placed-outcome [] n d = refl
+placed-outcome ((true ⇒ r) ∷ cs) n d = refl
+placed-outcome ((false ⇒ r) ∷ cs) n d = placed-outcome cs n d
+
+-- and the record is written where none of them applies
+placed-leaves : (cs : List Cause) (n : ℕ) (o : Option PrefixSet) (d : List ℕ)
+    → placedLeaves (answer cs n) (pairBeside cs o) d ≡ pairLeaves (cs ++ pairRoom d) o d
+unfolding placedLeaves outcome
+placed-leaves [] n o d = refl
+placed-leaves ((true ⇒ r) ∷ cs) n o d = refl
+placed-leaves ((false ⇒ r) ∷ cs) n o d = placed-leaves cs n o d
+
+module _ (cs : List Cause) (o : Option PrefixSet) (d : List ℕ) (a : Answer) (h : a ≡ pairAnswer cs o) where
+  -- so it is of a call that answers a pair
+  pub placed-answer : (x : Answer) → x ≡ placedAnswer a d → x ≡ pairAnswer (cs ++ pairRoom d) o
+  placed-answer x e = e ∙ rw h (placed-outcome cs (thereNumber o) d)
+
+  pub placed-written : (z : PairState) (w : List ℕ) → z ≡ pairBeside cs o → w ≡ placedLeaves a z d → w ≡ pairLeaves (cs ++ pairRoom d) o d
+  placed-written z w g e = e ∙ rw (h, g) (placed-leaves cs (thereNumber o) o d)

@@ -1,0 +1,68 @@
+// The calls on pairs as records.
+use crate::record::PAIR_SIZE;
+use crate::record::place;
+use crate::record::read_pair;
+use model::Answer;
+use model::Refusal;
+ghost use mathlib.Core.Path.{_≡_};
+ghost use Rattle.model.specs.calls.PairRecordCalls.{reversePairAnswer, reversePairLeaves, applyPairAnswer, applyPairLeaves, composePairsAnswer, composePairsLeaves, translatePairAnswer, translatePairLeaves};
+
+// RevPrefixSet: the pair with its prefixes exchanged, at the head of dest. Answers 1 where it is there, 0 where it is
+// absent. Refuses 1, 2 and 10.
+pub fn reverse_pair(pair: &[u8], dest: &mut [u8]) -> Answer
+    ensures answered { λ r. ⌜ r ≡ reversePairAnswer (now (pair .entry)) (now (dest .entry)) ⌝ }
+    ensures written { λ r. ⌜ now (dest .exit) ≡ reversePairLeaves (now (pair .entry)) (now (dest .entry)) ⌝ }
+{
+    if pair.len() != PAIR_SIZE {
+        return Answer::Refused(Refusal::Shape);
+    }
+    if 1 < pair[0] {
+        return Answer::Refused(Refusal::Malformed);
+    }
+    place(read_pair(pair).reverse(), dest)
+}
+
+// ApplyPrefixSet: the key with the pair's old prefix changed to its new one, at the head of dest. Answers its length.
+// Refuses 1, 2, 7, 8 and 10.
+pub fn apply_pair(pair: &[u8], key: &[u8], dest: &mut [u8]) -> Answer
+    ensures answered { λ r. ⌜ r ≡ applyPairAnswer (now (pair .entry)) (now (key .entry)) (now (dest .entry)) ⌝ }
+    ensures written { λ r. ⌜ now (dest .exit) ≡ applyPairLeaves (now (pair .entry)) (now (key .entry)) (now (dest .entry)) ⌝ }
+{
+    if pair.len() != PAIR_SIZE {
+        return Answer::Refused(Refusal::Shape);
+    }
+    if 1 < pair[0] {
+        return Answer::Refused(Refusal::Malformed);
+    }
+    read_pair(pair).apply(key, dest)
+}
+
+// ComposePrefixSet: the pair that undoes b and then does a, at the head of dest. Answers 1 where it is there, 0 where it
+// is absent. Refuses 1, 2, 7, 8 and 10.
+pub fn compose_pairs(a: &[u8], b: &[u8], dest: &mut [u8]) -> Answer
+    ensures answered { λ r. ⌜ r ≡ composePairsAnswer (now (a .entry)) (now (b .entry)) (now (dest .entry)) ⌝ }
+    ensures written { λ r. ⌜ now (dest .exit) ≡ composePairsLeaves (now (a .entry)) (now (b .entry)) (now (dest .entry)) ⌝ }
+{
+    if a.len() != PAIR_SIZE {
+        return Answer::Refused(Refusal::Shape);
+    }
+    if b.len() != PAIR_SIZE {
+        return Answer::Refused(Refusal::Shape);
+    }
+    if 1 < a[0] {
+        return Answer::Refused(Refusal::Malformed);
+    }
+    if 1 < b[0] {
+        return Answer::Refused(Refusal::Malformed);
+    }
+    place(read_pair(a).compose(read_pair(b)), dest)
+}
+
+// Translate: the pair of the key's slot, at the head of dest. Answers 1 where it is there, 0 where it is absent.
+// Refuses 1, 2, 3, 4, 5 and 10.
+pub fn translate_pair(pivots: &[u8], edges: &[u8], key: &[u8], dest: &mut [u8]) -> Answer
+    ensures answered { λ r. ⌜ r ≡ translatePairAnswer (now (pivots .entry)) (now (edges .entry)) (now (key .entry)) (now (dest .entry)) ⌝ }
+    ensures written { λ r. ⌜ now (dest .exit) ≡ translatePairLeaves (now (pivots .entry)) (now (edges .entry)) (now (key .entry)) (now (dest .entry)) ⌝ }
+{
+    place(translation::translate(pivots, edges, key), dest)
+}
