@@ -3,6 +3,7 @@
 mod of_cuts;
 mod of_keys;
 mod of_list;
+mod of_pairs;
 mod of_tables;
 mod tell;
 
@@ -16,6 +17,10 @@ pub use of_keys::jd_pivot_key;
 pub use of_keys::jd_pivot_lcp;
 pub use of_keys::jd_shortest_uncommon_prefix;
 pub use of_list::jd_list_table;
+pub use of_pairs::jd_apply_pair;
+pub use of_pairs::jd_compose_pairs;
+pub use of_pairs::jd_reverse_pair;
+pub use of_pairs::jd_translate;
 pub use of_tables::jd_bounded_key;
 pub use of_tables::jd_contains_all_keys;
 pub use of_tables::jd_contains_range;
