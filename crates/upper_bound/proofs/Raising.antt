@@ -129,7 +129,8 @@ module _ (p : Key) (z : ℤ) (small : length p ≤ 64) (e : z ≡ predℤ (pos (
 
 -- ---- a bound has room
 
-short-upper : (p : Key) → length p ≤ 64 → shortElement (ShortestUncommonPrefix p) ≡ true
+-- the upper bound of a short prefix is short
+pub short-upper : (p : Key) → length p ≤ 64 → shortElement (ShortestUncommonPrefix p) ≡ true
 short-upper p small = go (ShortestUncommonPrefix p) refl
   where
     go : (u : Element) → ShortestUncommonPrefix p ≡ u → shortElement u ≡ true

@@ -1,0 +1,4 @@
+pub mod Changed
+pub mod Placed
+pub mod Prefixes
+pub mod Tests
