@@ -9,3 +9,4 @@ pub mod RenamingCalls
 pub mod ParentChildCalls
 pub mod BucketCalls
 pub mod Alike
+pub mod SlotCalls

@@ -1,7 +1,9 @@
-// The number of each refusal. No public function has a `requires`.
+// The number of each refusal, and the earlier of two. No public function has a `requires`.
+use model::Answer;
 use model::Refusal;
 ghost use mathlib.Core.Path.{_≡_};
 ghost use Rattle.model.specs.calls.Refusals.{number};
+ghost use Rattle.refusals.specs.Earlier.{earlier};
 
 // The paper's number of a refusal.
 pub fn refusal_number(r: Refusal) -> u32
@@ -19,4 +21,20 @@ pub fn refusal_number(r: Refusal) -> u32
         Refusal::NotBelow => 9,
         Refusal::NoRoom => 10,
     }
+}
+
+// Of two answers the refusal with the smaller number; else the first one's value.
+pub fn earlier(a: Answer, b: Answer) -> Answer
+    ensures { λ r. ⌜ r ≡ earlier a b ⌝ }
+{
+    let Answer::Refused(s) = b else {
+        return a;
+    };
+    let Answer::Refused(r) = a else {
+        return b;
+    };
+    if refusal_number(s) < refusal_number(r) {
+        return b;
+    }
+    a
 }

@@ -1,0 +1,13 @@
+-- Of two calls' answers the earlier refusal.
+use mathlib.Core.Bool.{cond}
+use lib.Dec.{ltb}
+use Rattle.model.specs.declared.Answer.{Answer}
+use Rattle.model.specs.declared.Answer.the-variants.{Value, Refused}
+use Rattle.model.specs.calls.Refusals.{number}
+
+-- "The smallest number that applies is answered": of two answers the refusal with the smaller number; else the first one's value
+unfoldable pub earlier : Answer → Answer → Answer
+earlier (Value m) (Value n) = Value m
+earlier (Value m) (Refused s) = Refused s
+earlier (Refused r) (Value n) = Refused r
+earlier (Refused r) (Refused s) = cond (ltb (number s) (number r)) (Refused s) (Refused r)
