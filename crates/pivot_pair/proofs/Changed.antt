@@ -26,6 +26,7 @@ module _ (n : ℕ) (q t : Key) (h : length q + length t ≤ maxLen) where
   unfolding recordOf
   after-key = rw (two-more, drop-append-seam q (zeros (maxLen - length q)))
 
+  -- and up to it the length field and the key
   up-to-key : take (2 + length q) (recordOf n q) ≡ n / 256 ∷ n % 256 ∷ q
   unfolding recordOf
   up-to-key = rw (two-more, take-append-seam q (zeros (maxLen - length q)))

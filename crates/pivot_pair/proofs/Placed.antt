@@ -33,16 +33,19 @@ changed-room p q k h = omega (arith, leb-true (length (changePrefix p q k)) maxL
 
 module _ (r p q : List ℕ) (t : Bool) (e : t ≡ hasPrefix p (element r)) where
   module _ (k : List ℕ) (h : t ≡ true) (f : k ≡ keyBytes r) where
+    -- the prefix ends inside it
     pub right-inside : length p ≤ length k
     right-inside = prefix-length p k (right-begins r p t e k h f)
 
+    -- the changed key has room in a record
     pub right-room : shortElement (translateRight p q (element r)) ≡ true → length q + (length k - length p) ≤ 64
     right-room s = changed-room p q k (rw (right-changed r p t e q h, ← f) at s)
 
+    -- its record is that of the new bound
     pub right-placed : (d w : List ℕ) → w ≡ into (encode (key (changePrefix p q k))) d → w ≡ into (encode (translateRight p q (element r))) d
     right-placed d w g = rw (right-changed r p t e q h, ← f) g
 
-  -- a record has room, so it is written whole
+  -- the record of the upper bound has room, so it is written whole
   pub upper-placed : (d w : List ℕ) → t ≡ false → length q ≤ 64 → recordSize ≤ length d → w ≡ uncommonPrefixLeaves q d
       → w ≡ into (encode (translateRight p q (element r))) d
   unfolding outcome
@@ -54,26 +57,32 @@ module _ (r p q : List ℕ) (t : Bool) (e : t ≡ hasPrefix p (element r)) where
 -- ---- both bounds
 
 module _ (l r p q d : List ℕ) (x : Prefixed l r p q) (h : longBounds (newBounds l r p q) ≡ false) where
+  -- both are short
   shorts : (shortElement (key (changePrefix p q l)) ≡ true) × (shortElement (translateRight p q (element r)) ≡ true)
   unfolding TranslatePivotPairInternal TranslateElement
   shorts = both (shortElement (key (changePrefix p q l))) (shortElement (translateRight p q (element r))) (not-false _ h)
 
+  -- the prefix ends inside the left bound
   pub left-inside : length p ≤ length l
   left-inside = prefix-length p l (x .begins)
 
+  -- the changed left bound has room in a record
   pub left-room : length q + (length l - length p) ≤ 64
   left-room = changed-room p q l (shorts .0)
 
+  -- the new right bound is short
   pub bound-short : shortElement (translateRight p q (element r)) ≡ true
   bound-short = shorts .1
 
   module _ (m : 132 ≤ length d) (v : List ℕ) (e : v ≡ into (encode (key (changePrefix p q l))) d) where
+    -- each record has 66 bytes
     first-size : length (encode (key (changePrefix p q l))) ≡ recordSize
     first-size = length-encode (key (changePrefix p q l)) (shorts .0)
 
     second-size : length (encode (translateRight p q (element r))) ≡ recordSize
     second-size = length-encode (translateRight p q (element r)) (shorts .1)
 
+    -- the destination keeps its length
     kept-size : length v ≡ length d
     kept-size =
         let z : length (encode (key (changePrefix p q l))) ≤ length d = omega (arith, first-size) in

@@ -1,6 +1,6 @@
 -- The bounds of a range under another prefix: whether the right one has the prefix, and whether the new ones are short.
 use mathlib.Core.Path.{_≡_, refl, sym, _∙_}
-use mathlib.Core.Bool.{Bool, true, false, cond, not, _&&_, false≢true}
+use mathlib.Core.Bool.{Bool, true, false, cond, not, _&&_, false≢true, Bool·not-not}
 use mathlib.Core.List.{List}
 use mathlib.Core.Logic.{⊎-elim}
 use Prim.Native.Nat.{ℕ, _+_, _-_, _≤_, _<_}
@@ -23,6 +23,7 @@ use Rattle.pivot_pair.specs.Range.{hasPrefix}
 -- ---- whether a record has the prefix
 
 module _ (r p : List ℕ) (t : Bool) (e : t ≡ eqb (lengthField r) maxMark) where
+  -- a record stands for max or for its key bytes
   element-is : element r ≡ cond t max (key (keyBytes r))
   unfolding element
   element-is = rw e
@@ -44,6 +45,7 @@ by-prefix p q (key k) = refl
 by-prefix p q max = refl
 
 module _ (r p : List ℕ) (t : Bool) (e : t ≡ hasPrefix p (element r)) where
+  -- what has the prefix is a key that begins with it
   has : t ≡ true → (element r ≡ key (keyBytes r)) × (IsPrefix p (keyBytes r) ≡ true)
   unfolding element
   has h = go (eqb (lengthField r) maxMark) (sym e ∙ h)
@@ -53,7 +55,7 @@ module _ (r p : List ℕ) (t : Bool) (e : t ≡ hasPrefix p (element r)) where
       go true f = absurd (false≢true f)
       go false f = (refl, f)
 
-  -- a key that has the prefix begins with it
+  -- the right bound begins with the prefix where it has it
   pub right-begins : (k : List ℕ) → t ≡ true → k ≡ keyBytes r → IsPrefix p k ≡ true
   right-begins k h f = rw f (has h .1)
 
@@ -88,16 +90,15 @@ module _ (l r p q : List ℕ) (t : Bool) (e : t ≡ tooLong (changePrefix p q l)
   unfolding TranslatePivotPairInternal TranslateElement
   either-long = rw (short-is (changePrefix p q l), ← e)
 
+  -- the left one is
   pub left-long : t ≡ true → true ≡ longBounds (newBounds l r p q)
   left-long h = rw (either-long, h)
 
   module _ (o : Bool) (g : o ≡ hasPrefix p (element r)) (h : t ≡ false) where
+    -- the right one is where its changed key is
     pub right-long : (k : List ℕ) (u : Bool) → o ≡ true → k ≡ keyBytes r → u ≡ tooLong (changePrefix p q k) → u ≡ longBounds (newBounds l r p q)
-    right-long k u i f w = rw (either-long, h, right-changed r p o g q i, short-is (changePrefix p q (keyBytes r)), ← f, ← w) (go u)
-      where
-        go : (b : Bool) → b ≡ not (not b)
-        go true = refl
-        go false = refl
+    right-long k u i f w = rw (either-long, h, right-changed r p o g q i, short-is (changePrefix p q (keyBytes r)), ← f, ← w, Bool·not-not)
 
+    -- an upper bound never is
     pub neither-long : o ≡ false → length q ≤ 64 → false ≡ longBounds (newBounds l r p q)
     neither-long i f = rw (either-long, h, right-upper r p o g q i, short-upper q f)

@@ -1,12 +1,12 @@
 -- The causes of two arguments, each listed by its numbers, in one list by their numbers: its answer is the earlier of the two answers.
-use mathlib.Core.Path.{_≡_, refl, sym, _∙_}
+use mathlib.Core.Path.{_≡_, refl, sym}
 use mathlib.Core.Bool.{Bool, true, false, cond, _&&_, _||_}
 use mathlib.Core.List.{List, [], _∷_}
 use mathlib.Core.Option.{none}
 use Prim.Native.Nat.{ℕ, suc, _≤_, _<_}
 use native.Mathlib.Omega.{arith}
 use borrow.Author.Tests.{lt-ltb, le-ltb, leb-true, eqb-true}
-use lib.Dec.{eqb, leb, ltb}
+use lib.Dec.{eqb, leb}
 use Rattle.model.specs.declared.Refusal.{Refusal}
 use Rattle.model.specs.declared.Answer.{Answer}
 use Rattle.model.specs.declared.Answer.the-variants.{Value, Refused}
@@ -18,6 +18,7 @@ use Rattle.refusals.specs.Earlier.{earlier}
 -- ---- what the code compares
 
 module _ (a b : Answer) where
+  -- the second is no refusal: the first is answered
   pub none-second : (n : ℕ) → b ≡ Value n → a ≡ earlier a b
   unfolding earlier
   none-second n e = rw e (go a)
@@ -26,15 +27,18 @@ module _ (a b : Answer) where
       go (Value m) = refl
       go (Refused r) = refl
 
+  -- the first alone is none: the second
   pub none-first : (m : ℕ) (s : Refusal) → a ≡ Value m → b ≡ Refused s → Refused s ≡ earlier a b
   unfolding earlier
   none-first m s e f = rw (e, f)
 
   module _ (r s : Refusal) (e : a ≡ Refused r) (f : b ≡ Refused s) (m n : ℕ) (g : m ≡ number s) (h : n ≡ number r) where
+    -- of two refusals the second where its number is smaller
     pub second-less : m < n → Refused s ≡ earlier a b
     unfolding earlier
     second-less i = rw (e, f, lt-ltb (number s) (number r) (omega arith))
 
+    -- else the first
     pub first-least : n ≤ m → Refused r ≡ earlier a b
     unfolding earlier
     first-least i = rw (e, f, le-ltb (number s) (number r) (omega arith))
@@ -116,3 +120,13 @@ paired-none ((a ⇒ r) ∷ cs) ((b ⇒ s) ∷ ds) h =
     let k = none-later a r ((b ⇒ s) ∷ paired cs ds) h in
     let w = paired-none cs ds (none-later b s (paired cs ds) k) in
     (rw (none-here a r ((b ⇒ s) ∷ paired cs ds) h) (w .0), rw (none-here b s (paired cs ds) k) (w .1))
+
+-- a cause of one argument or of a third, and beside it the same of a second, is that of any of them
+pub either-of : {A : Type 0} (f : Refusal → A) (v : A) (x y z : Bool) (r : Refusal) (cs ds : List Cause) → outcome f cs v ≡ outcome f ds v
+    → outcome f ((x || z ⇒ r) ∷ (y ⇒ r) ∷ cs) v ≡ outcome f ((x || y || z ⇒ r) ∷ ds) v
+unfolding outcome
+either-of f v true y z r cs ds e = refl
+either-of f v false true true r cs ds e = refl
+either-of f v false true false r cs ds e = refl
+either-of f v false false true r cs ds e = refl
+either-of f v false false false r cs ds e = e

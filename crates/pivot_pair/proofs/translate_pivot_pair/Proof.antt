@@ -1,11 +1,11 @@
 -- `pivot_pair::translate_pivot_pair` meets its contract.
 use Rattle.model.proofs.calls.Refusals.{answering}
-use Rattle.pivot_pair.proofs.Tests.{wrong-found, wrong-passed, prefixed}
+use Rattle.pivot_pair.proofs.Tests.{known, prefixed}
 use borrow.Author.Needs.{needs}
 use Rattle.pivot_pair.proofs.translate_pivot_pair.Statement.{statement}
 use Rattle.pivot_pair.proofs.translate_pivot_pair.Tie as tie
 
-ruleset rules = (needs, wrong-found, wrong-passed, prefixed, answering)
+ruleset rules = (needs, known, prefixed, answering)
 
 returns : tie.Need-returns
 returns c = (search rules, search rules)

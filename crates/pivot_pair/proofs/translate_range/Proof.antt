@@ -1,11 +1,11 @@
 -- `pivot_pair::translate_range` meets its contract.
 use Rattle.model.proofs.calls.Refusals.{answering}
-use Rattle.pivot_pair.proofs.Tests.{long-found, long-passed, above-found, above-passed}
+use Rattle.pivot_pair.proofs.Tests.{known, above}
 use borrow.Author.Needs.{needs}
 use Rattle.pivot_pair.proofs.translate_range.Statement.{statement}
 use Rattle.pivot_pair.proofs.translate_range.Tie as tie
 
-ruleset rules = (needs, long-found, long-passed, above-found, above-passed, answering)
+ruleset rules = (needs, known, above, answering)
 
 has-prefix-requires : tie.Need-has-prefix-requires
 has-prefix-requires c κs = search rules

@@ -1,50 +1,38 @@
+-- `refusals::earlier` meets its contract.
 use Rattle.refusals.proofs.InStep.{none-second, none-first, second-less, first-least}
 use borrow.Author.Needs.{needs}
 use Rattle.refusals.proofs.earlier.Statement.{statement}
 use Rattle.refusals.proofs.earlier.Tie as tie
-use Rattle.refusals.proofs.earlier.Reads as reads
-use Rattle.refusals.proofs.earlier.Lts as lts
-use Rattle.refusals.proofs.refusal_number.Reads as refusal-number-reads
 
 ruleset rules = (needs, none-second, none-first, second-less, first-least)
 
--- src/lib.rt:30:25
 enum-known-b : tie.Need-enum-known-b
 enum-known-b c = search rules
 
--- src/lib.rt:31:9
 enum-told : tie.Need-enum-told
 enum-told c = search rules
 
--- src/lib.rt:31:9
 returns : tie.Need-returns
 returns c = search rules
 
--- src/lib.rt:33:25
 enum-known-a : tie.Need-enum-known-a
 enum-known-a c = search rules
 
--- src/lib.rt:34:9
 enum-told-2 : tie.Need-enum-told-2
 enum-told-2 c = search rules
 
--- src/lib.rt:34:9
 returns-2 : tie.Need-returns-2
 returns-2 c = search rules
 
--- src/lib.rt:36:8
 refusal-number-requires : tie.Need-refusal-number-requires
 refusal-number-requires c κs = search rules
 
--- src/lib.rt:36:28
 refusal-number-requires-2 : tie.Need-refusal-number-requires-2
 refusal-number-requires-2 c κs = search rules
 
--- src/lib.rt:37:9
 returns-3 : tie.Need-returns-3
 returns-3 c = search rules
 
--- src/lib.rt:27:1
 returns-4 : tie.Need-returns-4
 returns-4 c = search rules
 

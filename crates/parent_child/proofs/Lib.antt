@@ -1,0 +1,4 @@
+pub mod Holding
+pub mod Merged
+pub mod Renamed
+pub mod Slots
