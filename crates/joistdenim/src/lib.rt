@@ -4,6 +4,7 @@ mod of_cuts;
 mod of_keys;
 mod of_list;
 mod of_pairs;
+mod of_ranges;
 mod of_tables;
 mod tell;
 
@@ -21,6 +22,8 @@ pub use of_pairs::jd_apply_pair;
 pub use of_pairs::jd_compose_pairs;
 pub use of_pairs::jd_reverse_pair;
 pub use of_pairs::jd_translate;
+pub use of_ranges::jd_parent_keys_in_child_range;
+pub use of_ranges::jd_translate_pivot_pair;
 pub use of_tables::jd_bounded_key;
 pub use of_tables::jd_contains_all_keys;
 pub use of_tables::jd_contains_range;
