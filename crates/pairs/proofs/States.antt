@@ -97,12 +97,12 @@ module _ (y t : Bool) (n m : ℕ) (a b : List ℕ)
   short : Short n m
   short = lengths _ (told-false t _ e f) g
 
-  -- its prefixes end inside their arrays
-  pub old-inside : length (map (λ (v : ℕ). v) a) ≡ 64 → n ≤ length a
-  old-inside i = let s = short in omega (arith, length-unmapped ℕ a 64 i)
+  -- its prefixes end inside arrays of 64 bytes
+  pub old-inside : (c : List ℕ) → length (map (λ (v : ℕ). v) c) ≡ 64 → n ≤ length c
+  old-inside c i = let s = short in omega (arith, length-unmapped ℕ c 64 i)
 
-  pub new-inside : length (map (λ (v : ℕ). v) b) ≡ 64 → m ≤ length b
-  new-inside i = let s = short in omega (arith, length-unmapped ℕ b 64 i)
+  pub new-inside : (c : List ℕ) → length (map (λ (v : ℕ). v) c) ≡ 64 → m ≤ length c
+  new-inside c i = let s = short in omega (arith, length-unmapped ℕ c 64 i)
 
   -- and have at most 64 bytes
   pub old-short : length (take n a) ≤ 64
