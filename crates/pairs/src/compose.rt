@@ -6,6 +6,7 @@ ghost use mathlib.Core.Path.{_≡_};
 ghost use mathlib.Core.Option.{none};
 ghost use Prim.Native.Nat.{_≤_};
 ghost use lib.ListN.{length};
+ghost use Rattle.model.specs.keys.Key.{maxLen};
 ghost use Rattle.model.specs.inner.Written.{clipped};
 ghost use Rattle.model.specs.translation.PrefixSet.{pair, ComposePrefixSet};
 ghost use Rattle.model.specs.translation.PairState.{stateOf};
@@ -31,10 +32,10 @@ pub(crate) fn made(old: &[u8], new: &[u8]) -> Paired
     }
 }
 
-// The pair of ap and aq after the pair of bp and bq is undone: of the old prefixes the shorter begins the longer, and
-// what this has beyond it goes on after the other pair's new prefix. Refuses 7 and 8.
+// The pair that undoes bp to bq and then does ap to aq: the longer old prefix, changed by the pair with the shorter one,
+// beside the longer one's own new prefix. Refuses 7 and 8.
 pub(crate) fn composed(ap: &[u8], aq: &[u8], bp: &[u8], bq: &[u8]) -> Paired
-    requires { ⌜ (length (now ap) ≤ 64) × (length (now aq) ≤ 64) × (length (now bp) ≤ 64) × (length (now bq) ≤ 64) ⌝ }
+    requires { ⌜ (length (now ap) ≤ maxLen) × (length (now aq) ≤ maxLen) × (length (now bp) ≤ maxLen) × (length (now bq) ≤ maxLen) ⌝ }
     ensures answered { λ r. ⌜ r .answer ≡ pairAnswer (composition (pair (now (ap .entry)) (now (aq .entry))) (pair (now (bp .entry)) (now (bq .entry)))) (ComposePrefixSet (pair (now (ap .entry)) (now (aq .entry))) (pair (now (bp .entry)) (now (bq .entry)))) ⌝ }
     ensures paired { λ r. ⌜ state (r .pair) ≡ pairBeside (composition (pair (now (ap .entry)) (now (aq .entry))) (pair (now (bp .entry)) (now (bq .entry)))) (ComposePrefixSet (pair (now (ap .entry)) (now (aq .entry))) (pair (now (bp .entry)) (now (bq .entry)))) ⌝ }
 {
