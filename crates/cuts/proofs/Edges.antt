@@ -8,11 +8,10 @@ use Prim.Native.Nat.{ℕ, _≤_, _<_}
 use native.Mathlib.Omega.{arith}
 use mir.Syntax.{w16}
 use mir.Val.{Fits}
-use borrow.Author.Tests.{le-leb, lt-leb, le-ltb, lt-ltb, leb-true, not-false}
+use borrow.Author.Tests.{le-leb, lt-leb, le-ltb, lt-ltb, leb-true}
 use lib.Dec.{eqb}
 use lib.ListN.{length, take}
 use Rattle.model.specs.declared.Refusal.{Refusal}
-use Rattle.model.specs.declared.Refusal.the-variants.{TooLong}
 use Rattle.model.specs.declared.Answer.{Answer}
 use Rattle.model.specs.declared.Answer.the-variants as answers
 use Rattle.model.specs.keys.Key.{IsPrefix, changePrefix}
@@ -21,11 +20,11 @@ use Rattle.model.specs.inner.Written.{clipped}
 use Rattle.model.specs.tables.Tables.{shortEdge}
 use Rattle.model.specs.cuts.Cuts.{cutEdge}
 use Rattle.model.specs.calls.KeyCalls.{sizeCauses, changePrefixCauses, changePrefixAnswer, changePrefixLeaves}
-use Rattle.model.specs.calls.Refusals.{outcome, first, answer, leaves, over}
+use Rattle.model.specs.calls.Refusals.{outcome, first, answer, leaves}
 use Rattle.model.specs.inner.Written.{into}
-use Rattle.model.proofs.Lists.{into-over, take-over, clipped-all, le-or-lt, length-over}
-use Rattle.model.proofs.calls.Refusals.{refused-by, passed, none-here, accepted, value-is, refused}
-use Rattle.model.proofs.calls.KeyCalls.{only-sizes}
+use Rattle.model.proofs.Lists.{into-over, clipped-all, le-or-lt}
+use Rattle.model.proofs.calls.Refusals.{refused-by, passed, accepted, refused}
+use Rattle.model.proofs.calls.KeyCalls.{only-sizes, change-counts, change-most, change-head, change-inside}
 use Rattle.model.proofs.records.Record.{length-record}
 use Rattle.cuts.specs.Slot.{longCauses}
 
@@ -95,28 +94,26 @@ module _ (a : Answer) (r p q b room w : List ℕ) (t : Bool) (h : a ≡ changePr
     short : first (longCauses (cutEdge p q (edgeOf r))) ≡ none
     short = accepted (longCauses (cutEdge p q (edgeOf r))) _ a changed n f
 
+    change : a ≡ changePrefixAnswer q p (keyBytes r) room
+    change = rw u at h
+
+    left : w ≡ changePrefixLeaves q p (keyBytes r) room
+    left = rw u at k
+
     counts : n ≡ length (changePrefix p (keyBytes r) q)
-    counts = value-is (longCauses (cutEdge p q (edgeOf r))) _ a changed n f
+    counts = change-counts q p (keyBytes r) room a change n f
 
     at-most : n ≤ 64
-    at-most =
-        let z : shortEdge (cutEdge p q (edgeOf r)) ≡ true = not-false _ (none-here _ TooLong [] short) in
-        rw counts (leb-true (length (changePrefix p (keyBytes r) q)) 64 (rw cut-is at z))
-
-    written : w ≡ over (changePrefix p (keyBytes r) q) room
-    written =
-        rw u at k
-        ∙ changes (λ (_ : Refusal). room) (over (changePrefix p (keyBytes r) q) room)
-        ∙ sym (passed (λ (_ : Refusal). room) _ _ _ short refl)
+    at-most = change-most q p (keyBytes r) room a change n f
 
     made-of : take n w ≡ changePrefix p (keyBytes r) q
-    made-of = rw (counts, written) (take-over (changePrefix p (keyBytes r) q) room)
+    made-of = change-head q p (keyBytes r) room a change n f w left
 
     pub made-fits : Fits w16 n
     made-fits = record { fits = omega (arith, at-most) }
 
     pub made-inside : n ≤ length w
-    made-inside = rw written (omega (arith, at-most, counts, length-over (changePrefix p (keyBytes r) q) room (omega (arith, counts, at-most))))
+    made-inside = change-inside q p (keyBytes r) room a change n f w left (omega (arith, x))
 
     pub made-counts : n ≡ length (take n w)
     made-counts = counts ∙ ap length (sym made-of)

@@ -6,23 +6,24 @@ use mathlib.Core.Option.{Option, none, some}
 use mathlib.Core.Logic.{⊎-elim}
 use Prim.Native.Nat.{ℕ, _≤_, _<_}
 use native.Mathlib.Omega.{arith}
-use borrow.Author.Tests.{le-leb, lt-leb, le-ltb, lt-ltb, ltb-false}
+use borrow.Author.Tests.{le-leb, lt-leb, le-ltb, lt-ltb}
 use lib.Dec.{leb}
 use lib.ListN.{length, take}
 use Rattle.model.specs.declared.Refusal.{Refusal}
-use Rattle.model.specs.declared.Refusal.the-variants.{Malformed, NotPrefix, TooLong}
+use Rattle.model.specs.declared.Refusal.the-variants.{NotPrefix, TooLong}
 use Rattle.model.specs.declared.Answer.{Answer}
 use Rattle.model.specs.declared.Answer.the-variants as answers
 use Rattle.model.specs.keys.Key.{Key, tooLong, IsPrefix, changePrefix}
 use Rattle.model.specs.inner.Written.{clipped}
 use Rattle.model.specs.translation.PrefixSet.{PrefixSet, pair, ApplyPrefixSet, Composable, ComposePrefixSet, longPair}
 use Rattle.model.specs.translation.PairState.{PairState, stateOf}
-use Rattle.model.specs.calls.Refusals.{Cause, _⇒_, outcome, first, answer, over}
+use Rattle.model.specs.calls.Refusals.{Cause, _⇒_, outcome, first, answer}
 use Rattle.model.specs.calls.KeyCalls.{changePrefixCauses, changePrefixAnswer, changePrefixLeaves}
 use Rattle.model.specs.calls.PairCalls.{thereNumber, pairAnswer, pairBeside, composition}
-use Rattle.model.proofs.Lists.{clipped-all, take-over, length-over, le-or-lt}
+use Rattle.model.proofs.Lists.{clipped-all, le-or-lt}
 use Rattle.model.proofs.keys.Key.{prefix-refl, prefix-nested}
-use Rattle.model.proofs.calls.Refusals.{refused-by, passed, none-here, none-later, accepted, value-is, refused}
+use Rattle.model.proofs.calls.Refusals.{refused-by, passed, refused}
+use Rattle.model.proofs.calls.KeyCalls.{change-accepted, change-counts, change-most, change-head, change-inside}
 use Rattle.model.proofs.calls.TableCalls.{not-too-long}
 
 -- of a change of prefix into 64 bytes, where all are short, only 7 and 8 may apply
@@ -100,39 +101,21 @@ module _ (k p q room : List ℕ) (a : Answer) (h : a ≡ changePrefixAnswer k p 
 
   -- where it is accepted, the changed prefix stands at the head of its room
   module _ (n : ℕ) (f : a ≡ answers.Value n) where
-    no-cause : first (changePrefixCauses k p q room) ≡ none
-    no-cause = accepted (changePrefixCauses k p q room) _ a h n f
-
-    counts : n ≡ length (changePrefix p q k)
-    counts = value-is (changePrefixCauses k p q room) _ a h n f
-
-    at-most : n ≤ 64
-    at-most =
-        rw counts
-        (ltb-false 64 (length (changePrefix p q k))
-        (none-here _ TooLong _ (none-later (not (IsPrefix p k)) NotPrefix _ (none-later (tooLong k || tooLong p || tooLong q) Malformed _ no-cause))))
-
     module _ (w : List ℕ) (g : w ≡ changePrefixLeaves k p q room) where
-      written : w ≡ over (changePrefix p q k) room
-      written = g ∙ sym (passed (λ (_ : Refusal). room) _ _ (changePrefixCauses k p q room) no-cause refl)
-
       -- inside it
       pub head-inside : length room ≡ 64 → n ≤ length w
-      head-inside x = rw written (omega (arith, at-most, counts, length-over (changePrefix p q k) room (omega (arith, counts, at-most))))
-
-      head-is : take n w ≡ changePrefix p q k
-      head-is = rw (counts, written) (take-over (changePrefix p q k) room)
+      head-inside x = change-inside k p q room a h n f w g (omega arith)
 
       changed-is : clipped (take n w) ≡ changePrefix p q k
-      changed-is = rw head-is (clipped-all (changePrefix p q k) (rw (← counts) at-most))
+      changed-is = rw (change-head k p q room a h n f w g) (clipped-all (changePrefix p q k) (omega (arith, change-counts k p q room a h n f, change-most k p q room a h n f)))
 
     -- and the pair that is made is the outcome
     module _ (cs : List Cause) (e : first (changePrefixCauses k p q room) ≡ first cs) where
       pub made-answer : (c d : PrefixSet) (x : Answer) → x ≡ answers.Value 1 → x ≡ pairAnswer cs (ComposePrefixSet (some c) (some d))
-      made-answer c d x y = passed answers.Refused _ x cs (sym e ∙ no-cause) (y ∙ ap answers.Value (one-there c d))
+      made-answer c d x y = passed answers.Refused _ x cs (sym e ∙ change-accepted k p q room a h n f) (y ∙ ap answers.Value (one-there c d))
 
       pub made-pair : (o s : Option PrefixSet) (z : PairState) → z ≡ stateOf s → s ≡ o → z ≡ pairBeside cs o
-      made-pair o s z y i = passed (λ (_ : Refusal). stateOf none) _ z cs (sym e ∙ no-cause) (y ∙ ap stateOf i)
+      made-pair o s z y i = passed (λ (_ : Refusal). stateOf none) _ z cs (sym e ∙ change-accepted k p q room a h n f) (y ∙ ap stateOf i)
 
 -- the pair that is made is the composed one
 module _ (ap aq bp bq room w : List ℕ) (a : Answer) (n : ℕ) (f : a ≡ answers.Value n) where
