@@ -1,0 +1,60 @@
+// The edges with each absent one filled.
+use model::Answer;
+use model::RECORD_SIZE;
+use model::Refusal;
+ghost use mathlib.Core.Path.{_≡_};
+ghost use mathlib.Core.Bool.{false};
+ghost use mathlib.Core.Option.{none};
+ghost use Prim.Native.Nat.{_/_, _≤_, _<_};
+ghost use lib.ListN.{length};
+ghost use Rattle.model.specs.records.Record.{recordSize, encodeEdge, encodeEdges};
+ghost use Rattle.model.specs.tables.Tables.{edgeAt};
+ghost use Rattle.model.specs.calls.Refusals.{first, over};
+ghost use Rattle.model.specs.calls.TableCalls.{tableCauses};
+ghost use Rattle.model.specs.calls.RenamingCalls.{newEdges, edgesAnswer, edgesLeaves};
+
+// The record of the edge of slot i or, where there is none, of the prefix of the slot's range.
+fn filled_record(pivots: &[u8], edges: &[u8], i: usize) -> [u8; 66]
+    requires { ⌜ (first (tableCauses false false (now pivots) (now edges)) ≡ none) × (i < length (now edges) / recordSize) ⌝ }
+    ensures { λ r. ⌜ r ≡ encodeEdge (edgeAt (newEdges (now (pivots .entry)) (now (edges .entry))) i) ⌝ }
+{
+    let old = records::record_at(edges, i);
+    if records::is_no_edge(old) {
+        let from = records::key_bytes(records::record_at(pivots, i));
+        let n = range_prefix::range_prefix_len(from, records::record_at(pivots, i + 1));
+        return records::record_of(n as u16, &from[..n]);
+    }
+    let k = records::key_bytes(old);
+    records::record_of(k.len() as u16, k)
+}
+
+// The records of the filled edges, slot by slot.
+fn write_edges(pivots: &[u8], edges: &[u8], dest: &mut [u8])
+    requires { ⌜ (first (tableCauses false false (now pivots) (now edges)) ≡ none) × (length (now edges) ≤ length (now dest)) ⌝ }
+    ensures { λ _. ⌜ now (dest .exit) ≡ over (encodeEdges (newEdges (now (pivots .entry)) (now (edges .entry)))) (now (dest .entry)) ⌝ }
+{
+    let slots = edges.len() / RECORD_SIZE;
+    let mut i = 0;
+    while i < slots {
+        let at = i * RECORD_SIZE;
+        records::store(filled_record(pivots, edges, i), &mut dest[at..]);
+        i += 1;
+    }
+}
+
+// TranslateEdges: the edges with each absent one filled with its range's prefix, at the head of dest. Answers the
+// number of edges written. Refuses 1, 2, 3, 4 and 10.
+pub fn translate_edges(pivots: &[u8], edges: &[u8], dest: &mut [u8]) -> Answer
+    ensures answered { λ r. ⌜ r ≡ edgesAnswer (now (pivots .entry)) (now (edges .entry)) (now (dest .entry)) ⌝ }
+    ensures written { λ r. ⌜ now (dest .exit) ≡ edgesLeaves (now (pivots .entry)) (now (edges .entry)) (now (dest .entry)) ⌝ }
+{
+    let found = table_checks::check_table(pivots, edges, false, false);
+    let Answer::Value(_) = found else {
+        return found;
+    };
+    if dest.len() < edges.len() {
+        return Answer::Refused(Refusal::NoRoom);
+    }
+    write_edges(pivots, edges, dest);
+    Answer::Value(edges.len() / RECORD_SIZE)
+}
