@@ -10,3 +10,4 @@ pub mod ParentChildCalls
 pub mod BucketCalls
 pub mod Alike
 pub mod SlotCalls
+pub mod PivotKeys

@@ -1,7 +1,7 @@
 -- The filled edges of a table that has none of the causes 1 to 4, by their records: each made in its slot, and all written in turn.
 use mathlib.Core.Path.{_≡_, refl, sym, ap, _∙_}
-use mathlib.Core.Bool.{Bool, true, false, cond, false≢true}
-use mathlib.Core.List.{List, [], _∷_}
+use mathlib.Core.Bool.{Bool, true, false, cond}
+use mathlib.Core.List.{List, []}
 use mathlib.Core.Option.{none}
 use Prim.Native.Nat.{ℕ, _+_, _*_, _-_, _/_, _≤_, _<_}
 use native.Mathlib.Omega.{arith}
@@ -10,43 +10,33 @@ use mir.Val.{Fits}
 use borrow.Author.Tests.{leb-true, lt-ltb, le-ltb}
 use borrow.Rule.Slice.PartMut.{putMid}
 use lib.Dec.{eqb}
-use lib.ListN.{length, take, drop, length-drop}
+use lib.ListN.{length, take, drop}
 use lib.Seq.{length-take-le}
-use Rattle.model.specs.declared.Answer.the-variants as answers
 use Rattle.model.specs.declared.Refusal.{Refusal}
 use Rattle.model.specs.declared.Refusal.the-variants.{NoRoom}
 use Rattle.model.specs.keys.Key.{maxLen}
-use Rattle.model.specs.keys.Order.{key, max, isKey}
-use Rattle.model.specs.records.Record.{edge, noEdge, recordSize, maxMark, noEdgeMark, lengthField, keyBytes, element, edgeOf, elements, edges}
+use Rattle.model.specs.keys.Order.{key}
+use Rattle.model.specs.records.Record.{edge, noEdge, recordSize, noEdgeMark, lengthField, keyBytes, element, edgeOf, elements, edges}
 use Rattle.model.specs.records.Record.{recordOf, encodeEdge, encodeEdges}
 use Rattle.model.specs.inner.Places.{recordAt}
 use Rattle.model.specs.inner.Written.{clipped, into}
 use Rattle.model.specs.ranges.RangePrefix.{PivotLcp}
-use Rattle.model.specs.tables.Tables.{pivotAt, edgeAt, all, shortEdge}
+use Rattle.model.specs.tables.Tables.{edgeAt, all, shortEdge}
 use Rattle.model.specs.translation.Renaming.{filled}
 use Rattle.model.specs.calls.Refusals.{first, over, outcome}
-use Rattle.model.specs.calls.KeyCalls.{noRoom}
 use Rattle.model.specs.calls.TableCalls.{tableCauses}
 use Rattle.model.specs.calls.RenamingCalls.{newEdges, edgesCauses}
-use Rattle.model.proofs.Lists.{rest, into-over, clipped-all, all-at}
+use Rattle.model.proofs.Lists.{clipped-all, all-at}
 use Rattle.model.proofs.calls.Refusals.{here, later, done, after}
 use Rattle.model.proofs.keys.Key.{prefix-is-take}
 use Rattle.model.proofs.ranges.RangePrefix.{prefix-of-left}
 use Rattle.model.proofs.records.Record.{length-encodeEdge}
 use Rattle.model.proofs.records.InTurn.{turn-start, turn-next, turn-end}
-use Rattle.model.proofs.tables.Routing.{wf-keys, wf-all-short}
+use Rattle.model.proofs.tables.Routing.{wf-all-short}
 use Rattle.model.proofs.calls.TableCalls.{length-elements, length-edges, element-at, edge-at}
 use Rattle.model.proofs.calls.TableCalls.{table-wf, table-count, table-edges-whole, table-edges-short}
+use Rattle.model.proofs.calls.PivotKeys.{key-at}
 use Rattle.renaming.proofs.Filling.{filled-length, filled-at, filled-short}
-
--- a record that stands for a key stands for its key bytes
-key-element : (r : List ℕ) → isKey (element r) ≡ true → element r ≡ key (keyBytes r)
-unfolding element
-key-element r = go (eqb (lengthField r) maxMark)
-  where
-    go : (t : Bool) → isKey (cond t max (key (keyBytes r))) ≡ true → cond t max (key (keyBytes r)) ≡ key (keyBytes r)
-    go true h = absurd (false≢true h)
-    go false h = refl
 
 module _ (p e : List ℕ) (h : first (tableCauses false false p e) ≡ none) where
   -- there are as many as the edges lent
@@ -66,16 +56,10 @@ module _ (p e : List ℕ) (h : first (tableCauses false false p e) ≡ none) whe
     pivots-here : i + 1 < length p / 66
     pivots-here = omega (arith, table-count _ _ p e h, length-elements p, length-edges e)
 
-    from-here : pivotAt (elements p) i ≡ key (keyBytes (recordAt p i))
-    from-here =
-        let r = element-at p i (omega (arith, pivots-here)) in
-        let w = wf-keys (elements p) (table-wf _ _ p e h) i (omega (arith, pivots-here, length-elements p)) in
-        r ∙ key-element (recordAt p i) (rw r at w)
-
     filled-here : edgeAt (newEdges p e) i ≡ filled (PivotLcp (key (keyBytes (recordAt p i))) (element (recordAt p (i + 1)))) (edgeOf (recordAt e i))
     filled-here =
         filled-at (edges e) (elements p) i (table-count _ _ p e h) (omega (arith, length-edges e))
-        ∙ rw (from-here, element-at p (i + 1) pivots-here, edge-at e i m)
+        ∙ rw (key-at p (table-wf _ _ p e h) i pivots-here, element-at p (i + 1) pivots-here, edge-at e i m)
 
     module _ (a : List ℕ) (t : Bool) (g : a ≡ recordAt e i) (f : t ≡ eqb (lengthField a) noEdgeMark) where
       edge-is : edgeOf (recordAt e i) ≡ cond t noEdge (edge (keyBytes a))
@@ -121,18 +105,14 @@ module _ (p e : List ℕ) (h : first (tableCauses false false p e) ≡ none) whe
   unfolding encodeEdges
   edges-start d = turn-start encodeEdge (newEdges p e) d
 
-  pub edges-next : (i : ℕ) (d v m w : List ℕ) → i < length e / 66 → length e ≤ length d → length v ≡ length d
+  pub edges-next : (i : ℕ) (d v m w : List ℕ) → i < length e / 66 → length e ≤ length d
       → v ≡ over (encodeEdges (take i (newEdges p e))) d → m ≡ encodeEdge (edgeAt (newEdges p e) i)
       → w ≡ into m (take (length v - i * 66) (drop (i * 66) v))
       → putMid (i * 66) (length v - i * 66) v w ≡ over (encodeEdges (take (i + 1) (newEdges p e))) d
   unfolding encodeEdges
-  edges-next i d v m w l r s f g q =
-      let n = length-encodeEdge (edgeAt (newEdges p e) i) (short-here i l) in
-      let room : length m ≤ length (take (length v - i * 66) (drop (i * 66) v)) =
-      rw (rest v (i * 66), length-drop (i * 66) v) (omega (arith, n, ap length g))
-      in
-      turn-next encodeEdge (newEdges p e) recordSize shortEdge length-encodeEdge new-short i noEdge d v w (omega (arith, new-count)) f
-      (q ∙ into-over m _ room ∙ rw g)
+  edges-next i d v m w l r f g q =
+      turn-next encodeEdge (newEdges p e) recordSize shortEdge length-encodeEdge new-short i (omega (arith, new-count)) noEdge d v w (omega arith) f
+      (q ∙ rw g)
 
   pub edges-end : (i : ℕ) (d v : List ℕ) → length e / 66 ≤ i → v ≡ over (encodeEdges (take i (newEdges p e))) d → v ≡ over (encodeEdges (newEdges p e)) d
   unfolding encodeEdges

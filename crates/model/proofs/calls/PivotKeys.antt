@@ -1,0 +1,36 @@
+-- The keys of a table by its bytes: each pivot but the last is the key that its record holds.
+use mathlib.Core.Path.{_≡_, refl, _∙_}
+use mathlib.Core.Bool.{Bool, true, false, cond, false≢true}
+use mathlib.Core.List.{List}
+use Prim.Native.Nat.{ℕ, _+_, _/_, _<_, _≤_}
+use native.Mathlib.Omega.{arith}
+use borrow.Author.Tests.{leb-true}
+use lib.Dec.{eqb}
+use lib.ListN.{length}
+use Rattle.model.specs.keys.Key.{maxLen}
+use Rattle.model.specs.keys.Order.{key, max, isKey}
+use Rattle.model.specs.records.Record.{recordSize, maxMark, lengthField, keyBytes, element, elements}
+use Rattle.model.specs.inner.Places.{recordAt}
+use Rattle.model.specs.tables.Tables.{pivotAt, WFPivots}
+use Rattle.model.proofs.tables.Routing.{wf-keys, wf-short}
+use Rattle.model.proofs.calls.TableCalls.{length-elements, element-at}
+
+-- a record that stands for a key stands for its key bytes
+pub key-element : (r : List ℕ) → isKey (element r) ≡ true → element r ≡ key (keyBytes r)
+unfolding element
+key-element r = go (eqb (lengthField r) maxMark)
+  where
+    go : (t : Bool) → isKey (cond t max (key (keyBytes r))) ≡ true → cond t max (key (keyBytes r)) ≡ key (keyBytes r)
+    go true h = absurd (false≢true h)
+    go false h = refl
+
+module _ (p : List ℕ) (wf : WFPivots (elements p) ≡ true) (i : ℕ) (h : i + 1 < length p / recordSize) where
+  -- a pivot but the last is the key of its record
+  pub key-at : pivotAt (elements p) i ≡ key (keyBytes (recordAt p i))
+  key-at =
+      let r = element-at p i (omega arith) in
+      r ∙ key-element (recordAt p i) (rw r at (wf-keys (elements p) wf i (omega (arith, length-elements p))))
+
+  -- and has at most 64 bytes
+  pub key-at-short : length (keyBytes (recordAt p i)) ≤ maxLen
+  key-at-short = leb-true _ maxLen (rw key-at at (wf-short (elements p) wf i (omega (arith, length-elements p))))

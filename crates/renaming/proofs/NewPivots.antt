@@ -1,0 +1,103 @@
+-- The new pivots of a table that has none of the causes 1 to 3, 7 and 8, by their records: each key made at its place, all written in turn, and the end after them.
+use mathlib.Core.Path.{_≡_, _∙_}
+use mathlib.Core.Bool.{Bool, true}
+use mathlib.Core.List.{List, []}
+use Prim.Native.Nat.{ℕ, _+_, _*_, _-_, _/_, _≤_, _<_}
+use native.Mathlib.Omega.{arith}
+use borrow.Author.Tests.{leb-true, not-false}
+use borrow.Rule.Slice.PartMut.{putMid}
+use lib.ListN.{length, take, drop, getD, length-map}
+use Rattle.model.specs.declared.Refusal.the-variants.{NotPrefix, TooLong}
+use Rattle.model.specs.keys.Key.{changePrefix}
+use Rattle.model.specs.keys.Order.{key, max, lt}
+use Rattle.model.specs.records.Record.{recordSize, keyBytes, element, elements, encode, encodeAll}
+use Rattle.model.specs.inner.Places.{recordAt}
+use Rattle.model.specs.inner.Written.{into}
+use Rattle.model.specs.tables.Tables.{pivotAt, all, shortElement}
+use Rattle.model.specs.translation.Renaming.{TranslateElement}
+use Rattle.model.specs.calls.Refusals.{over}
+use Rattle.model.specs.calls.RenamingCalls.{butLast, begun, lastTranslated}
+use Rattle.model.proofs.Lists.{getD-map}
+use Rattle.model.proofs.keys.Key.{prefix-length, length-change}
+use Rattle.model.proofs.records.Record.{length-encode, element-encode}
+use Rattle.model.proofs.records.InTurn.{all-inside, turn-start, turn-next, turn-end}
+use Rattle.model.proofs.tables.Routing.{wf-count}
+use Rattle.model.proofs.calls.Refusals.{none-here, none-later}
+use Rattle.model.proofs.calls.TableCalls.{length-elements}
+use Rattle.model.proofs.calls.PivotKeys.{key-at}
+use Rattle.renaming.specs.Change.{changedPivots, Changeable}
+use Rattle.renaming.proofs.KeyPass.{but-count, but-at}
+
+module _ (v p q : List ℕ) (c : Changeable v p q) where
+  -- each pivot but the last begins with the prefix
+  all-begin : all (begun p) (butLast (elements v)) ≡ true
+  all-begin = not-false _ (none-here _ NotPrefix _ (c .none-applies))
+
+  -- none is too long
+  pub changed-short : all shortElement (changedPivots v p q) ≡ true
+  changed-short = not-false _ (none-here _ TooLong [] (none-later _ NotPrefix _ (c .none-applies)))
+
+  -- there is one fewer than pivots
+  pub changed-count : length (changedPivots v p q) ≡ length v / 66 - 1
+  changed-count = length-map (butLast (elements v)) (TranslateElement p q) ∙ but-count v (c .wf)
+
+  -- ---- one record
+
+  module _ (i : ℕ) (m : i + 1 < length v / 66) where
+    changed-at : getD (changedPivots v p q) i max ≡ TranslateElement p q (pivotAt (elements v) i)
+    changed-at =
+        getD-map (TranslateElement p q) (butLast (elements v)) i max max (omega (arith, but-count v (c .wf)))
+        ∙ rw (but-at v (c .wf) i m, key-at v (c .wf) i m)
+
+    short-here : shortElement (TranslateElement p q (pivotAt (elements v) i)) ≡ true
+    short-here = rw (← changed-at) (all-inside shortElement (changedPivots v p q) i max (omega (arith, changed-count)) changed-short)
+
+    module _ (a k : List ℕ) (f : a ≡ recordAt v i) (g : k ≡ keyBytes a) where
+      changed-is : TranslateElement p q (pivotAt (elements v) i) ≡ key (changePrefix p q k)
+      unfolding TranslateElement
+      changed-is = rw (key-at v (c .wf) i m, g, f)
+
+      pub key-begun : length p ≤ length k
+      key-begun =
+          let b = all-inside (begun p) (butLast (elements v)) i max (omega (arith, but-count v (c .wf))) all-begin in
+          prefix-length p k (rw (g, f) (rw (but-at v (c .wf) i m) at b))
+
+      pub key-fits : length q + (length k - length p) ≤ 64
+      key-fits = rw (← length-change p q k) (leb-true (length (changePrefix p q k)) 64 (rw changed-is at short-here))
+
+      pub key-made : (r : List ℕ) → r ≡ encode (key (changePrefix p q k)) → r ≡ encode (TranslateElement p q (pivotAt (elements v) i))
+      key-made r e = rw changed-is e
+
+  -- ---- all records but the end's
+
+  pub changed-start : (d : List ℕ) → d ≡ over (encodeAll (take 0 (changedPivots v p q))) d
+  unfolding encodeAll
+  changed-start d = turn-start encode (changedPivots v p q) d
+
+  pub changed-next : (i : ℕ) (d u m w : List ℕ) → i + 1 < length v / 66 → length v ≤ length d
+      → u ≡ over (encodeAll (take i (changedPivots v p q))) d → m ≡ encode (TranslateElement p q (pivotAt (elements v) i))
+      → w ≡ into m (take (length u - i * 66) (drop (i * 66) u))
+      → putMid (i * 66) (length u - i * 66) u w ≡ over (encodeAll (take (i + 1) (changedPivots v p q))) d
+  unfolding encodeAll
+  changed-next i d u m w l r f g o =
+      turn-next encode (changedPivots v p q) recordSize shortElement length-encode changed-short i (omega (arith, changed-count)) max d u w (omega arith) f
+      (o ∙ rw (changed-at i l, g))
+
+  pub changed-end : (i : ℕ) (d u : List ℕ) → length v / 66 ≤ i + 1 → u ≡ over (encodeAll (take i (changedPivots v p q))) d
+      → u ≡ over (encodeAll (changedPivots v p q)) d
+  unfolding encodeAll
+  changed-end i d u l f = turn-end encode (changedPivots v p q) i d u (omega (arith, changed-count)) f
+
+  -- ---- the last key
+
+  pub last-inside : 2 ≤ length v / 66
+  last-inside = omega (arith, wf-count (elements v) (c .wf), length-elements v)
+
+  pub last-slot : length v / 66 - 2 + 1 < length v / 66
+  last-slot = omega (arith, last-inside)
+
+  pub last-below : (r n : List ℕ) (t : Bool) → r ≡ encode (TranslateElement p q (pivotAt (elements v) (length v / 66 - 2)))
+      → t ≡ lt (element r) (element n) → t ≡ lt (lastTranslated v p q) (element n)
+  last-below r n t e f =
+      let i : length (elements v) - 1 - 1 ≡ length v / 66 - 2 = omega (arith, length-elements v) in
+      f ∙ rw (e, element-encode (TranslateElement p q (pivotAt (elements v) (length v / 66 - 2))) (short-here (length v / 66 - 2) last-slot), i)

@@ -1,0 +1,27 @@
+-- `renaming::ends_above` meets its contract.
+use Rattle.renaming.proofs.NewPivots.{last-inside, last-slot, last-below}
+use borrow.Author.Needs.{needs}
+use Rattle.renaming.proofs.pivots.ends_above.Statement.{statement}
+use Rattle.renaming.proofs.pivots.ends_above.Tie as tie
+
+ruleset rules = (needs, last-inside, last-slot, last-below)
+
+sub-last : tie.Need-sub-last
+sub-last c = search rules
+
+pivot-record-requires : tie.Need-pivot-record-requires
+pivot-record-requires c κs = search rules
+
+slice-aggregate-is-below : tie.Need-slice-aggregate-is-below
+slice-aggregate-is-below c = search rules
+
+is-below-requires : tie.Need-is-below-requires
+is-below-requires c κs = search rules
+
+returns : tie.Need-returns
+returns c = search rules
+
+pub ends-above-spec : {M : Type 1} → statement M
+ends-above-spec =
+    tie.close
+    (tie.spec sub-last pivot-record-requires slice-aggregate-is-below is-below-requires returns)
