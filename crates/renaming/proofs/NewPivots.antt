@@ -37,6 +37,13 @@ module _ (v p q : List ℕ) (c : Changeable v p q) where
   pub changed-short : all shortElement (changedPivots v p q) ≡ true
   changed-short = not-false _ (none-here _ TooLong [] (none-later _ NotPrefix _ (c .none-applies)))
 
+  -- there are two pivots or more
+  pub two-pivots : 2 ≤ length v / 66
+  two-pivots = omega (arith, wf-count (elements v) (c .wf), length-elements v)
+
+  pub one-pivot : 1 ≤ length v / 66
+  one-pivot = omega (arith, two-pivots)
+
   -- there is one fewer than pivots
   pub changed-count : length (changedPivots v p q) ≡ length v / 66 - 1
   changed-count = length-map (butLast (elements v)) (TranslateElement p q) ∙ but-count v (c .wf)
@@ -74,27 +81,24 @@ module _ (v p q : List ℕ) (c : Changeable v p q) where
   unfolding encodeAll
   changed-start d = turn-start encode (changedPivots v p q) d
 
-  pub changed-next : (i : ℕ) (d u m w : List ℕ) → i + 1 < length v / 66 → length v ≤ length d
+  pub changed-next : (i : ℕ) (d u m w : List ℕ) → i < length v / 66 - 1 → length v ≤ length d
       → u ≡ over (encodeAll (take i (changedPivots v p q))) d → m ≡ encode (TranslateElement p q (pivotAt (elements v) i))
       → w ≡ into m (take (length u - i * 66) (drop (i * 66) u))
       → putMid (i * 66) (length u - i * 66) u w ≡ over (encodeAll (take (i + 1) (changedPivots v p q))) d
   unfolding encodeAll
   changed-next i d u m w l r f g o =
       turn-next encode (changedPivots v p q) recordSize shortElement length-encode changed-short i (omega (arith, changed-count)) max d u w (omega arith) f
-      (o ∙ rw (changed-at i l, g))
+      (o ∙ rw (changed-at i (omega arith), g))
 
-  pub changed-end : (i : ℕ) (d u : List ℕ) → length v / 66 ≤ i + 1 → u ≡ over (encodeAll (take i (changedPivots v p q))) d
+  pub changed-end : (i : ℕ) (d u : List ℕ) → length v / 66 - 1 ≤ i → u ≡ over (encodeAll (take i (changedPivots v p q))) d
       → u ≡ over (encodeAll (changedPivots v p q)) d
   unfolding encodeAll
   changed-end i d u l f = turn-end encode (changedPivots v p q) i d u (omega (arith, changed-count)) f
 
   -- ---- the last key
 
-  pub last-inside : 2 ≤ length v / 66
-  last-inside = omega (arith, wf-count (elements v) (c .wf), length-elements v)
-
   pub last-slot : length v / 66 - 2 + 1 < length v / 66
-  last-slot = omega (arith, last-inside)
+  last-slot = omega (arith, two-pivots)
 
   pub last-below : (r n : List ℕ) (t : Bool) → r ≡ encode (TranslateElement p q (pivotAt (elements v) (length v / 66 - 2)))
       → t ≡ lt (element r) (element n) → t ≡ lt (lastTranslated v p q) (element n)

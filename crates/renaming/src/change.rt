@@ -84,9 +84,9 @@ pub(crate) fn write_changed(pivots: &[u8], prefix: &[u8], new_prefix: &[u8], des
     requires { ⌜ (Changeable (now pivots) (now prefix) (now «new_prefix»)) × (length (now pivots) ≤ length (now dest)) ⌝ }
     ensures { λ _. ⌜ now (dest .exit) ≡ over (encodeAll (changedPivots (now (pivots .entry)) (now (prefix .entry)) (now («new_prefix» .entry)))) (now (dest .entry)) ⌝ }
 {
-    let count = pivots.len() / RECORD_SIZE;
+    let last = pivots.len() / RECORD_SIZE - 1;
     let mut i = 0;
-    while i + 1 < count {
+    while i < last {
         let at = i * RECORD_SIZE;
         records::store(pivot_record(pivots, prefix, new_prefix, i), &mut dest[at..]);
         i += 1;

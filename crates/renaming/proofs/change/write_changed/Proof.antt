@@ -5,25 +5,25 @@ use lib.ListN.{length, take}
 use Rattle.model.specs.records.Record.{encodeAll}
 use Rattle.model.specs.calls.Refusals.{over}
 use Rattle.renaming.specs.Change.{changedPivots}
-use Rattle.renaming.proofs.NewPivots.{changed-start, changed-next, changed-end}
+use Rattle.renaming.proofs.NewPivots.{one-pivot, changed-start, changed-next, changed-end}
 use borrow.Author.Needs.{needs}
 use Rattle.renaming.proofs.change.write_changed.Statement.{statement}
 use Rattle.renaming.proofs.change.write_changed.Tie as tie
 
-ruleset rules = (needs, changed-start, changed-next, changed-end)
+ruleset rules = (needs, one-pivot, changed-start, changed-next, changed-end)
 
 abbrev Inv-loop : tie.InvT-loop
-Inv-loop pivots prefix new-prefix dest₀ count i₀ dest i =
-    (i ≤ count) × (length dest ≡ length dest₀) × (dest ≡ over (encodeAll (take i (changedPivots pivots prefix new-prefix))) dest₀)
+Inv-loop pivots prefix new-prefix dest₀ last i₀ dest i =
+    (i ≤ last) × (length dest ≡ length dest₀) × (dest ≡ over (encodeAll (take i (changedPivots pivots prefix new-prefix))) dest₀)
 
 abbrev μ-loop : tie.MeasureT-loop
-μ-loop pivots prefix new-prefix dest₀ count i₀ dest i = count - i
+μ-loop pivots prefix new-prefix dest₀ last i₀ dest i = last - i
+
+sub-last : tie.Need-sub-last Inv-loop μ-loop
+sub-last c = search rules
 
 loop-holds : tie.Need-loop-holds Inv-loop μ-loop
 loop-holds c = (search rules, search rules, search rules)
-
-add-loop : tie.Need-add-loop Inv-loop μ-loop
-add-loop c = search rules
 
 mul-at : tie.Need-mul-at Inv-loop μ-loop
 mul-at c = search rules
@@ -64,8 +64,8 @@ write-changed-spec =
     (tie.spec
     Inv-loop
     μ-loop
+    sub-last
     loop-holds
-    add-loop
     mul-at
     pivot-record-requires
     sub-store

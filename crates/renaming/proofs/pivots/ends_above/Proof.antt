@@ -1,10 +1,10 @@
 -- `renaming::ends_above` meets its contract.
-use Rattle.renaming.proofs.NewPivots.{last-inside, last-slot, last-below}
+use Rattle.renaming.proofs.NewPivots.{two-pivots, last-slot, last-below}
 use borrow.Author.Needs.{needs}
 use Rattle.renaming.proofs.pivots.ends_above.Statement.{statement}
 use Rattle.renaming.proofs.pivots.ends_above.Tie as tie
 
-ruleset rules = (needs, last-inside, last-slot, last-below)
+ruleset rules = (needs, two-pivots, last-slot, last-below)
 
 sub-last : tie.Need-sub-last
 sub-last c = search rules
