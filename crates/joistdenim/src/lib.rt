@@ -5,6 +5,7 @@ mod of_keys;
 mod of_list;
 mod of_pairs;
 mod of_ranges;
+mod of_renaming;
 mod of_tables;
 mod tell;
 
@@ -24,6 +25,8 @@ pub use of_pairs::jd_reverse_pair;
 pub use of_pairs::jd_translate;
 pub use of_ranges::jd_parent_keys_in_child_range;
 pub use of_ranges::jd_translate_pivot_pair;
+pub use of_renaming::jd_translate_edges;
+pub use of_renaming::jd_translate_pivots;
 pub use of_tables::jd_bounded_key;
 pub use of_tables::jd_contains_all_keys;
 pub use of_tables::jd_contains_range;
