@@ -1,5 +1,5 @@
 //! The cuts of a table with its edges: SplitLeft with SplitLeftEdges, and the right ones.
-use crate::record::{Edge, Element, MAX_LEN, RECORD_SIZE};
+use crate::record::{put_all, Edge, Element, MAX_LEN, RECORD_SIZE};
 use crate::refusal::{refuse_if, Refusal};
 use crate::table::Pivots;
 use crate::table_calls::table_and_key;
@@ -34,13 +34,8 @@ fn put(
         short(dest_pivots, pivots.len()) || short(dest_edges, edges.len()),
         Refusal::NoRoom,
     )?;
-    for (pivot, dest) in pivots.iter().zip(dest_pivots.chunks_mut(RECORD_SIZE)) {
-        pivot.put(dest)?;
-    }
-    for (edge, dest) in edges.iter().zip(dest_edges.chunks_mut(RECORD_SIZE)) {
-        edge.put(dest)?;
-    }
-    Ok(pivots.len())
+    put_all(edges, Edge::put, dest_edges)?;
+    put_all(pivots, Element::put, dest_pivots)
 }
 
 /// A left cut "keeps the pivots below k and ends with k". Answers the pivots written.

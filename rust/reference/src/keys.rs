@@ -1,5 +1,6 @@
 //! Keys and order: compare, the key of a record or an entry, change of prefix.
-use crate::record::{element, key, one_record, short, ENTRY_SIZE, MAX_LEN};
+use crate::image::Image;
+use crate::record::{element, key, one_record, short, ENTRY_SIZE};
 use crate::refusal::{refuse_if, Refusal};
 use std::cmp::Ordering;
 
@@ -21,7 +22,7 @@ pub fn entry_key(entry: &[u8]) -> Result<&[u8], Refusal> {
     key(record)
 }
 
-/// "Changing prefix p to q in k gives q followed by k without its first |p| bytes."
+/// Writes the key with the new prefix in place of the old one and answers its length.
 pub fn change_prefix(
     key: &[u8],
     old: &[u8],
@@ -29,14 +30,9 @@ pub fn change_prefix(
     dest: &mut [u8],
 ) -> Result<usize, Refusal> {
     let (key, old, new) = (short(key)?, short(old)?, short(new)?);
-    let rest = key.strip_prefix(old).ok_or(Refusal::NotPrefix)?;
-    let length = new.len() + rest.len();
-    refuse_if(length > MAX_LEN, Refusal::TooLong)?;
-    let written = dest.get_mut(..length).ok_or(Refusal::NoRoom)?;
-    let (head, tail) = written.split_at_mut(new.len());
-    head.copy_from_slice(new);
-    tail.copy_from_slice(rest);
-    Ok(length)
+    let image = Image::of(key, old, new)?;
+    image.fit()?;
+    image.put(dest)
 }
 
 #[cfg(test)]

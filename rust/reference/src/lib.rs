@@ -9,14 +9,24 @@
 #[cfg(test)]
 mod cut_tests;
 mod cuts;
+mod image;
 mod keys;
 mod list;
 #[cfg(test)]
 mod list_tests;
+#[cfg(test)]
+mod pair_tests;
+mod pairs;
+mod parent_child;
+#[cfg(test)]
+mod parent_child_tests;
 mod plain_cut;
 mod range_prefix;
 mod record;
 mod refusal;
+mod renaming;
+#[cfg(test)]
+mod renaming_tests;
 mod table;
 mod table_calls;
 #[cfg(test)]
@@ -29,14 +39,17 @@ mod upper_bound;
 pub use cuts::{split_left, split_right};
 pub use keys::{change_prefix, compare, entry_key, pivot_key};
 pub use list::list_table;
+pub use pairs::{apply_pair, compose_pairs, reverse_pair, PAIR_SIZE};
+pub use parent_child::parent_keys_in_child_range;
 pub use plain_cut::{plain_cut, PlainCut};
 pub use range_prefix::{pivot_lcp, range_prefix};
 pub use record::{Edge, Element, ENTRY_SIZE, MAX_LEN, RECORD_SIZE};
 pub use refusal::Refusal;
+pub use renaming::{translate_edges, translate_pivot_pair, translate_pivots};
 pub use table::{MAX_PIVOTS, MIN_PIVOTS};
 pub use table_calls::{
     bounded_key, contains_all_keys, contains_range, cutoff_for_left, cutoff_for_right, get_key,
     init_pivot_table, pivot_insertable, route, valid_left_cut_off_key, wf_edges, wf_pivots,
 };
-pub use translation::translate_key;
+pub use translation::{translate, translate_key};
 pub use upper_bound::{shortest_uncommon_prefix, upper_bound};

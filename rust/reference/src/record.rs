@@ -86,13 +86,33 @@ pub(crate) fn edge(record: &Record) -> Result<Edge<'_>, Refusal> {
     }
 }
 
-/// Writes a record with this length field and these bytes at the head of `dest`: cause 10.
-fn put(field: u16, bytes: &[u8], dest: &mut [u8]) -> Result<(), Refusal> {
+/// Writes a record with this length field and zeros at the head of `dest`, and hands back the
+/// place of its bytes: cause 10.
+pub(crate) fn blank(field: u16, dest: &mut [u8]) -> Result<&mut [u8], Refusal> {
     let record = dest.get_mut(..RECORD_SIZE).ok_or(Refusal::NoRoom)?;
     record.fill(0);
-    record[..2].copy_from_slice(&field.to_be_bytes());
-    record[2..2 + bytes.len()].copy_from_slice(bytes);
+    let (length, bytes) = record.split_at_mut(2);
+    length.copy_from_slice(&field.to_be_bytes());
+    Ok(bytes)
+}
+
+/// Writes a record with this length field and these bytes at the head of `dest`: cause 10.
+fn put(field: u16, bytes: &[u8], dest: &mut [u8]) -> Result<(), Refusal> {
+    blank(field, dest)?[..bytes.len()].copy_from_slice(bytes);
     Ok(())
+}
+
+/// Writes records one after the other and answers how many: cause 10, before a byte is written.
+pub(crate) fn put_all<T>(
+    records: &[T],
+    put: impl Fn(&T, &mut [u8]) -> Result<(), Refusal>,
+    dest: &mut [u8],
+) -> Result<usize, Refusal> {
+    refuse_if(dest.len() < records.len() * RECORD_SIZE, Refusal::NoRoom)?;
+    for (record, dest) in records.iter().zip(dest.chunks_mut(RECORD_SIZE)) {
+        put(record, dest)?;
+    }
+    Ok(records.len())
 }
 
 impl Element<'_> {

@@ -90,6 +90,11 @@ impl<'a> Pivots<'a> {
         self.0.get(usize::try_from(place).ok()?).copied()
     }
 
+    /// ContainsRange: all from the first of these bounds up to the second.
+    pub(crate) fn holds(&self, [left, right]: [Element; 2]) -> bool {
+        self.first() <= left && right <= self.last()
+    }
+
     /// BoundedKey: not below the first pivot and below the last.
     pub(crate) fn bounds(&self, key: Element) -> bool {
         self.first() <= key && key < self.last()

@@ -58,7 +58,7 @@ pub fn contains_range(pivots: &[u8], left: &[u8], right: &[u8]) -> Result<bool, 
     let (left, right) = (Element::Key(short(left)?), element(right)?);
     let pivots = Pivots::rising(pivots)?;
     refuse_if(left >= right, Refusal::NotBelow)?;
-    Ok(pivots.first() <= left && right <= pivots.last())
+    Ok(pivots.holds([left, right]))
 }
 
 /// BoundedKey: whether the key is in the table's range.

@@ -1,5 +1,5 @@
-//! Records and tables for the tests.
-use crate::RECORD_SIZE;
+//! Records, tables and pairs for the tests.
+use crate::{PAIR_SIZE, RECORD_SIZE};
 
 pub fn field(field: u16) -> Vec<u8> {
     let mut record = vec![0; RECORD_SIZE];
@@ -29,4 +29,20 @@ pub fn table(keys: &[&[u8]]) -> Vec<u8> {
 pub fn t() -> (Vec<u8>, Vec<u8>) {
     let pivots = table(&[&[0x41, 0x30], &[0x41, 0x35], &[0x42]]);
     (pivots, [record(&[0x43]), no_edge()].concat())
+}
+
+/// The absent pair.
+pub fn absent() -> Vec<u8> {
+    vec![0; PAIR_SIZE]
+}
+
+/// The pair from an old prefix to a new one.
+pub fn pair(old: &[u8], new: &[u8]) -> Vec<u8> {
+    let mut record = absent();
+    record[0] = 1;
+    record[2] = old.len() as u8;
+    record[4] = new.len() as u8;
+    record[5..5 + old.len()].copy_from_slice(old);
+    record[69..69 + new.len()].copy_from_slice(new);
+    record
 }
