@@ -14,6 +14,13 @@
  * JD_NO_EDGE or JD_MAX; all else is malformed, and so is a mark before a byte that isn't zero.
  * An element is a record with a key or max. An entry has JD_ENTRY_SIZE bytes: a record with a
  * key, and a number of four bytes. A key or prefix argument is lent as its bytes alone.
+ *
+ * A pair changes an old prefix to a new one, or is absent and changes nothing. It has
+ * JD_PAIR_SIZE bytes: a flag, 1 where it is there and 0 where it is absent; the lengths of old
+ * and new prefix in two bytes each, high byte first; the old prefix in JD_MAX_LEN bytes from
+ * byte 5 on; the new one from byte 69 on. Another flag is malformed, and so is a length over
+ * JD_MAX_LEN in a pair that is there. Bytes past a length, and all after the flag of an absent
+ * pair, are not looked at in an argument and are zero in a result.
  */
 #ifndef JOISTDENIM_H
 #define JOISTDENIM_H
@@ -24,6 +31,7 @@
 #define JD_MAX_LEN 64
 #define JD_RECORD_SIZE 66
 #define JD_ENTRY_SIZE 70
+#define JD_PAIR_SIZE 133
 #define JD_MIN_PIVOTS 2
 #define JD_MAX_PIVOTS 64
 
@@ -32,15 +40,15 @@
 #define JD_MAX 65535
 
 enum jd_refusal {
-    JD_SHAPE = 1,        /* a slice isn't the records it should be */
-    JD_MALFORMED = 2,    /* a malformed record, a wrong mark, or a key or prefix over 64 bytes */
+    JD_SHAPE = 1,        /* a slice isn't the records or the pair it should be */
+    JD_MALFORMED = 2,    /* a malformed record or pair, a wrong mark, or a key over 64 bytes */
     JD_UNSORTED = 3,     /* pivots don't rise strictly */
     JD_EMPTY_PREFIX = 4, /* an edge where the range's prefix is empty */
     JD_OUT_OF_RANGE = 5, /* the key is outside the table's range */
     JD_NO_SUCH_SLOT = 6, /* no such slot, or no key at that place */
-    JD_NOT_PREFIX = 7,   /* the old prefix doesn't begin the key */
-    JD_TOO_LONG = 8,     /* a produced key passes 64 bytes */
-    JD_NOT_BELOW = 9,    /* left isn't below right */
+    JD_NOT_PREFIX = 7,   /* an old prefix doesn't begin what it must */
+    JD_TOO_LONG = 8,     /* a produced key or prefix passes 64 bytes */
+    JD_NOT_BELOW = 9,    /* left isn't below right, or the last new pivot isn't below the end */
     JD_NO_ROOM = 10      /* a destination is too short */
 };
 
@@ -166,6 +174,72 @@ uint32_t jd_translate_key(const uint8_t *pivots, size_t pivots_len,
                           const uint8_t *edges, size_t edges_len,
                           const uint8_t *key, size_t key_len,
                           uint8_t *dest, size_t dest_len, uint64_t *length);
+
+/* ---- Pairs. Where the result is a pair, the answer is 1 where it is there and 0 where it is
+ * absent. */
+
+/* Writes the pair of the key's slot: from the range's prefix to the slot's edge, or absent where
+ * the slot has no edge. Refuses JD_SHAPE, JD_MALFORMED, JD_UNSORTED, JD_EMPTY_PREFIX,
+ * JD_OUT_OF_RANGE, JD_NO_ROOM. */
+uint32_t jd_translate(const uint8_t *pivots, size_t pivots_len,
+                      const uint8_t *edges, size_t edges_len,
+                      const uint8_t *key, size_t key_len,
+                      uint8_t *dest_pair, size_t dest_pair_len, uint64_t *there);
+
+/* Writes the pair with old and new prefix swapped. Refuses JD_SHAPE, JD_MALFORMED, JD_NO_ROOM. */
+uint32_t jd_reverse_pair(const uint8_t *pair, size_t pair_len,
+                         uint8_t *dest_pair, size_t dest_pair_len, uint64_t *there);
+
+/* Writes the key with the pair's new prefix in place of its old one, or the key itself where the
+ * pair is absent; answers its length. Refuses JD_SHAPE, JD_MALFORMED, JD_NOT_PREFIX, JD_TOO_LONG,
+ * JD_NO_ROOM. */
+uint32_t jd_apply_pair(const uint8_t *pair, size_t pair_len,
+                       const uint8_t *key, size_t key_len,
+                       uint8_t *dest, size_t dest_len, uint64_t *length);
+
+/* Writes the pair that undoes b and then does a: it takes what b makes of a key to what a makes
+ * of it. Where a is absent that is b reversed, where b is absent a. Refuses JD_SHAPE,
+ * JD_MALFORMED, JD_NOT_PREFIX (neither old prefix begins the other), JD_TOO_LONG (a prefix of the
+ * result), JD_NO_ROOM. */
+uint32_t jd_compose_pairs(const uint8_t *pair_a, size_t pair_a_len,
+                          const uint8_t *pair_b, size_t pair_b_len,
+                          uint8_t *dest_pair, size_t dest_pair_len, uint64_t *there);
+
+/* ---- Pivots and edges under another prefix. */
+
+/* Writes the range from a left key up to a right element under the new prefix, two records: left
+ * with its prefix changed; right with its prefix changed, or the new prefix's upper bound where
+ * right is max or lacks the prefix. Answers 2. Refuses JD_SHAPE, JD_MALFORMED, JD_NOT_PREFIX (of
+ * left), JD_TOO_LONG, JD_NOT_BELOW, JD_NO_ROOM. */
+uint32_t jd_translate_pivot_pair(const uint8_t *left, size_t left_len,
+                                 const uint8_t *right, size_t right_len,
+                                 const uint8_t *prefix, size_t prefix_len,
+                                 const uint8_t *new_prefix, size_t new_prefix_len,
+                                 uint8_t *dest, size_t dest_len, uint64_t *written);
+
+/* Writes each pivot but the last with its prefix changed, and in place of the last the given end,
+ * an element above the others. Answers the pivots written. Refuses JD_SHAPE, JD_MALFORMED,
+ * JD_UNSORTED, JD_NOT_PREFIX, JD_TOO_LONG, JD_NOT_BELOW, JD_NO_ROOM. */
+uint32_t jd_translate_pivots(const uint8_t *pivots, size_t pivots_len,
+                             const uint8_t *prefix, size_t prefix_len,
+                             const uint8_t *new_prefix, size_t new_prefix_len,
+                             const uint8_t *end, size_t end_len,
+                             uint8_t *dest, size_t dest_len, uint64_t *written);
+
+/* Writes each edge, and where there is none the range's prefix, which may be empty: then
+ * jd_wf_edges refuses what was written. Answers the edges written. Refuses JD_SHAPE,
+ * JD_MALFORMED, JD_UNSORTED, JD_EMPTY_PREFIX, JD_NO_ROOM. */
+uint32_t jd_translate_edges(const uint8_t *pivots, size_t pivots_len,
+                            const uint8_t *edges, size_t edges_len,
+                            uint8_t *dest, size_t dest_len, uint64_t *written);
+
+/* Whether the child's range holds the range of the parent's slot: under the slot's edge, or as it
+ * is where the slot has none. Refuses JD_SHAPE, JD_MALFORMED, JD_UNSORTED, JD_EMPTY_PREFIX (of
+ * the parent), JD_NO_SUCH_SLOT, JD_TOO_LONG (a bound under the edge). */
+uint32_t jd_parent_keys_in_child_range(const uint8_t *parent_pivots, size_t parent_pivots_len,
+                                       const uint8_t *parent_edges, size_t parent_edges_len,
+                                       const uint8_t *child_pivots, size_t child_pivots_len,
+                                       uint64_t slot, uint64_t *yes);
 
 /* ---- The list of a table, as text. */
 

@@ -22,6 +22,12 @@ impl<'a> Asked<'a> {
         }
     }
 
+    /// The slices one by one, as many as the call takes.
+    pub fn all<const N: usize>(&self) -> [&'a [u8]; N] {
+        let slices = self.slices.try_into();
+        slices.expect("as many slices as the call takes")
+    }
+
     /// A case without a place, with destinations of these lengths.
     pub fn with_dests(slices: &'a [&'a [u8]], dests: [usize; MOST_DESTS]) -> Self {
         let place = 0;

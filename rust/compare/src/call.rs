@@ -10,7 +10,10 @@ pub enum Kind {
     Record,
     Entry,
     Pivots,
+    /// The pivots of a second table.
+    Child,
     Edges,
+    Pair,
     /// The count of the pivots, the pivots and the edges.
     Input,
 }
@@ -22,9 +25,38 @@ pub struct Call {
     pub takes_place: bool,
     /// The destinations, none to two, after the slices.
     pub dests: &'static [&'static str],
+    /// How many bytes it writes to each where this is its answer.
+    pub written: fn(u64) -> [usize; MOST_DESTS],
     pub archive: fn(&Asked, &mut Lent) -> u32,
     /// As C does it: the status returned, the destinations and the number changed in place.
     pub reference: fn(&Asked, Dests, &mut u64) -> u32,
+}
+
+/// A call without a place and destinations.
+pub const fn call(
+    name: &'static str,
+    arguments: &'static [(&'static str, Kind)],
+    archive: fn(&Asked, &mut Lent) -> u32,
+    reference: fn(&Asked, Dests, &mut u64) -> u32,
+) -> Call {
+    Call {
+        name,
+        arguments,
+        takes_place: false,
+        dests: &[],
+        written: |_| [0; MOST_DESTS],
+        archive,
+        reference,
+    }
+}
+
+/// What stands in one destination where the answer counts bytes, and where it counts records.
+pub fn bytes(count: u64) -> [usize; MOST_DESTS] {
+    [count as usize, 0]
+}
+
+pub fn records(count: u64) -> [usize; MOST_DESTS] {
+    [66 * count as usize, 0]
 }
 
 /// The destinations of one case, to be written to; one that the call doesn't have is empty.

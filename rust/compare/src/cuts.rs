@@ -1,4 +1,4 @@
-//! Groups for the cuts and the translation of a key.
+//! Groups for the cuts, and for the translation of a key and the pair of its slot.
 mod by_hand;
 mod calls;
 pub mod inputs;
@@ -17,6 +17,7 @@ pub fn tests() -> Vec<Test> {
         test("rows 14 and 15: cuts", by_hand::rows),
         test("cuts of T by hand", by_hand::cuts_of_t),
         test("cuts: 64 and 65 bytes produced", by_hand::limits),
+        test("keys: 64 and 65 bytes produced", by_hand::key_limits),
         test("cuts: destinations by hand", by_hand::destinations),
         test("cuts: order of causes by hand", by_hand::order_of_causes),
         test("wrapper: cuts", wrapper::cuts),

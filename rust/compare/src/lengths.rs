@@ -6,6 +6,7 @@ use crate::call::{Call, Kind};
 use crate::group::Group;
 use crate::inputs::{counted, entry, field_record, record, MAX, NO_EDGE};
 use crate::list_inputs::usual_inputs;
+use crate::pair_inputs::{pair, usual_pairs};
 use crate::table_inputs::{usual_edges, usual_pivots};
 
 const LONGEST: usize = 140;
@@ -26,15 +27,19 @@ pub fn usual(kind: Kind) -> Vec<Vec<u8>> {
             records.map(|r| r.to_vec()).chain(wrong).collect()
         }
         Kind::Entry => records.map(|r| entry(r).to_vec()).collect(),
-        Kind::Pivots => usual_pivots(),
+        Kind::Pivots | Kind::Child => usual_pivots(),
         Kind::Edges => usual_edges(),
+        Kind::Pair => usual_pairs(),
         Kind::Input => usual_inputs(),
     }
 }
 
-/// Slices of a length: zeros, FF, counted bytes, and a good record cut or drawn out.
-fn contents(len: usize) -> Vec<Vec<u8>> {
-    let mut good = record(&[0x41, 0x30]).to_vec();
+/// Slices of a length: zeros, FF, counted bytes, and a good record or pair cut or drawn out.
+fn contents(kind: Kind, len: usize) -> Vec<Vec<u8>> {
+    let mut good = match kind {
+        Kind::Pair => pair(&[0x41], &[0x43]).to_vec(),
+        _ => record(&[0x41, 0x30]).to_vec(),
+    };
     good.resize(len, 0);
     vec![vec![0; len], vec![0xFF; len], counted(len), good]
 }
@@ -82,15 +87,17 @@ pub fn every_length(group: &mut Group, call: &Call) {
         .iter()
         .map(|(_, kind)| usual(*kind))
         .collect();
-    let dests: &[[usize; MOST_DESTS]] = match call.dests.len() {
-        0 => &[[0, 0]],
-        1 => &[[0, 0], [1, 0], [64, 0], [65, 0], [66, 0]],
+    // Four slices make so many cases that two destinations must do.
+    let dests: &[[usize; MOST_DESTS]] = match (call.dests.len(), usual.len()) {
+        (0, _) => &[[0, 0]],
+        (1, 4) => &[[0, 0], [133, 0]],
+        (1, _) => &[[0, 0], [1, 0], [64, 0], [65, 0], [66, 0], [133, 0]],
         _ => &[[0, 0], [131, 66], [132, 65], [300, 300]],
     };
-    for argument in 0..usual.len() {
+    for (argument, (_, kind)) in call.arguments.iter().enumerate() {
         let mut slices = usual.clone();
         for len in 0..=LONGEST {
-            slices[argument] = contents(len);
+            slices[argument] = contents(*kind, len);
             choices(group, call, &slices, dests);
         }
     }

@@ -6,7 +6,7 @@ use std::sync::OnceLock;
 const GUARD: usize = 16;
 /// Around an argument: a scan that runs on past its end would take FF for more of a run.
 const ARGUMENT_GUARD: u8 = 0xFF;
-const MOST_SLICES: usize = 3;
+const MOST_SLICES: usize = 4;
 
 #[derive(Default)]
 struct Guarded {
@@ -83,24 +83,28 @@ impl Lent {
         self.answer = [number_before(salt); 3];
     }
 
-    pub fn slices(&mut self) -> [Part; MOST_SLICES] {
-        // A mutable pointer, so that a write through it would be seen and not be undefined.
-        self.slices.each_mut().map(|slice| Part {
-            at: slice.pointer(),
-            len: slice.content().len(),
+    /// The first slices, as many as the call takes.
+    pub fn slices<const N: usize>(&mut self) -> [Part; N] {
+        let mut slices = self.slices.iter_mut();
+        std::array::from_fn(|_| {
+            let slice = slices.next().expect("no call takes more slices");
+            // A mutable pointer, so that a write through it would be seen and not be undefined.
+            Part {
+                at: slice.pointer(),
+                len: slice.content().len(),
+            }
         })
     }
 
-    /// The destination of a call that has one.
-    pub fn dest(&mut self) -> Dest {
-        let [dest, _] = self.dests();
-        dest
-    }
-
-    pub fn dests(&mut self) -> [Dest; MOST_DESTS] {
-        self.dests.each_mut().map(|dest| Dest {
-            at: dest.pointer(),
-            len: dest.content().len(),
+    /// The first destinations, as many as the call takes.
+    pub fn dests<const N: usize>(&mut self) -> [Dest; N] {
+        let mut dests = self.dests.iter_mut();
+        std::array::from_fn(|_| {
+            let dest = dests.next().expect("no call takes more destinations");
+            Dest {
+                at: dest.pointer(),
+                len: dest.content().len(),
+            }
         })
     }
 
@@ -126,6 +130,24 @@ impl Lent {
             && self.answer[2] == number_before(salt)
     }
 }
+
+/// Calls a function of the archive with the slices that are lent and, after the semicolon, the
+/// destinations.
+macro_rules! lend {
+    ($lent:ident, $call:path, $($slice:ident),*; $($dest:ident),*) => {{
+        let [$($slice),*] = $lent.slices();
+        let [$($dest),*] = $lent.dests();
+        // SAFETY: `Lent` owns the bytes, each slice is good for its length, and no two overlap.
+        unsafe {
+            $call(
+                $($slice.at, $slice.len,)*
+                $($dest.at, $dest.len,)*
+                $lent.answer().cast(),
+            )
+        }
+    }};
+}
+pub(crate) use lend;
 
 const NUMBER_BEFORE: u64 = 0xA5C3_5A3C_9669_7800;
 

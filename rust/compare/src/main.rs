@@ -1,9 +1,11 @@
 //! Runs the archive and the reference on the same cases. A line for each group of cases, then
 //! 'N passed, M failed' over the groups; the status is 1 where one failed.
+mod answers;
 mod asked;
 mod call;
 mod changes;
 mod cuts;
+mod dests;
 mod group;
 mod inputs;
 mod key_calls;
@@ -13,11 +15,16 @@ mod list;
 mod list_inputs;
 mod malformed;
 mod orders;
+mod pair_inputs;
+mod pairs;
+mod parent_child;
 mod random;
 mod range_prefixes;
+mod renaming;
 mod rows;
 mod table_inputs;
 mod tables;
+mod told;
 mod upper_bounds;
 mod wrapper;
 
@@ -87,6 +94,9 @@ fn main() -> ExitCode {
         tests_of_every_call(),
         tables::tests(),
         cuts::tests(),
+        pairs::tests(),
+        renaming::tests(),
+        parent_child::tests(),
         list::tests(),
     ];
     for test in tests.into_iter().flatten() {

@@ -2,11 +2,13 @@
 //! one random key, so that they often begin alike; some are changed or are random bytes alone.
 use crate::asked::{Asked, MOST_DESTS};
 use crate::call::{Call, Kind};
+use crate::dests::around;
 use crate::group::Group;
 use crate::inputs::{
     entry, field_record, near, random_bytes, record, Xorshift, BYTES, MAX, NO_EDGE,
 };
 use crate::list_inputs::joined;
+use crate::pair_inputs::random_pair;
 use crate::table_inputs::{random_edges, random_pivots};
 
 const SEED: u64 = 20_250_627;
@@ -49,21 +51,24 @@ fn slice(random: &mut Xorshift, kind: Kind, base: &[u8]) -> Vec<u8> {
             Ok(record) => entry(&record).to_vec(),
             Err(bytes) => bytes,
         },
-        Kind::Pivots => random_pivots(random, base),
+        Kind::Pivots | Kind::Child => random_pivots(random, base),
+        Kind::Pair => random_pair(random, base),
         Kind::Edges => random_edges(random, base),
         Kind::Input => joined(&random_pivots(random, base), &random_edges(random, base)),
     }
 }
 
+/// Slices for each argument, from one base.
+fn slices(random: &mut Xorshift, call: &Call) -> Vec<Vec<u8>> {
+    let base = base(random);
+    let kinds = call.arguments.iter().map(|(_, kind)| *kind);
+    kinds.map(|kind| slice(random, kind, &base)).collect()
+}
+
 pub fn cases(group: &mut Group, call: &Call, count: usize) {
     let mut random = Xorshift::new(SEED);
     for _ in 0..count {
-        let base = base(&mut random);
-        let slices: Vec<Vec<u8>> = call
-            .arguments
-            .iter()
-            .map(|(_, kind)| slice(&mut random, *kind, &base))
-            .collect();
+        let slices = slices(&mut random, call);
         let slices: Vec<&[u8]> = slices.iter().map(|slice| &slice[..]).collect();
         let longest = if call.dests.len() < 2 { 141 } else { 600 };
         let mut dests = [0; MOST_DESTS];
@@ -78,5 +83,15 @@ pub fn cases(group: &mut Group, call: &Call, count: usize) {
             dests,
         };
         group.case(call, &asked);
+    }
+}
+
+/// The same with destinations around what is written.
+pub fn around_written(group: &mut Group, call: &Call, count: usize) {
+    let mut random = Xorshift::new(SEED);
+    for _ in 0..count {
+        let slices = slices(&mut random, call);
+        let slices: Vec<&[u8]> = slices.iter().map(|slice| &slice[..]).collect();
+        around(group, call, &slices);
     }
 }

@@ -65,35 +65,29 @@ pub fn into<R>(len: usize, call: impl Fn(&mut [u8]) -> R) -> (R, Vec<u8>) {
     (call(&mut bytes[8..8 + len]), bytes)
 }
 
+/// One call of the wrapper and of the reference, with a destination of this length.
+macro_rules! into_both {
+    ($group:ident, $dest:expr, $call:ident($($slice:expr),*)) => {{
+        let (got, left) = crate::wrapper::into($dest, |d| joistdenim::$call($($slice,)* d));
+        let (wanted, right) = crate::wrapper::into($dest, |d| reference::$call($($slice,)* d));
+        let slices: &[&[u8]] = &[$($slice),*];
+        crate::wrapper::same($group, stringify!($call), slices, got, wanted);
+        crate::wrapper::same($group, stringify!($call), slices, Ok(left), Ok(right));
+    }};
+}
+pub(crate) use into_both;
+
 pub fn destinations(group: &mut Group) {
     let keys = small_keys(3);
     for key in &keys {
         for old in &keys {
             for (new, dest) in [(0, 4), (1, 3), (62, 64), (62, 63), (65, 64)] {
                 let new = &counted(new);
-                let (got, left) = into(dest, |d| joistdenim::change_prefix(key, old, new, d));
-                let (wanted, right) = into(dest, |d| reference::change_prefix(key, old, new, d));
-                same(group, "change_prefix", &[key, old, new], got, wanted);
-                same(
-                    group,
-                    "change_prefix",
-                    &[key, old, new],
-                    Ok(left),
-                    Ok(right),
-                );
+                into_both!(group, dest, change_prefix(key, old, new));
             }
         }
         for dest in [65, 66, 67] {
-            let (got, left) = into(dest, |d| joistdenim::shortest_uncommon_prefix(key, d));
-            let (wanted, right) = into(dest, |d| reference::shortest_uncommon_prefix(key, d));
-            same(group, "shortest_uncommon_prefix", &[key], got, wanted);
-            same(
-                group,
-                "shortest_uncommon_prefix",
-                &[key],
-                Ok(left),
-                Ok(right),
-            );
+            into_both!(group, dest, shortest_uncommon_prefix(key));
         }
     }
 }

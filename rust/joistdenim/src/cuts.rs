@@ -1,36 +1,7 @@
 //! The cuts of a table with its edges, and the translation of a key in it.
+use crate::lend::lend;
 use crate::raw;
 use crate::refusal::Refusal;
-
-fn split(
-    call: raw::Split,
-    pivots: &[u8],
-    edges: &[u8],
-    key: &[u8],
-    dest_pivots: &mut [u8],
-    dest_edges: &mut [u8],
-) -> Result<usize, Refusal> {
-    let mut written = 0;
-    // SAFETY: the slices are good for their lengths, and each destination, borrowed alone,
-    // overlaps none.
-    let number = unsafe {
-        call(
-            pivots.as_ptr(),
-            pivots.len(),
-            edges.as_ptr(),
-            edges.len(),
-            key.as_ptr(),
-            key.len(),
-            dest_pivots.as_mut_ptr(),
-            dest_pivots.len(),
-            dest_edges.as_mut_ptr(),
-            dest_edges.len(),
-            &mut written,
-        )
-    };
-    Refusal::check(number)?;
-    Ok(written as usize)
-}
 
 /// Cuts off what lies from the key on: writes the pivots below the key and the key, and the
 /// edges of these slots. The last slot is cut, and its edge goes on with what the range's prefix
@@ -69,14 +40,8 @@ pub fn split_left(
     dest_pivots: &mut [u8],
     dest_edges: &mut [u8],
 ) -> Result<usize, Refusal> {
-    split(
-        raw::jd_split_left,
-        pivots,
-        edges,
-        key,
-        dest_pivots,
-        dest_edges,
-    )
+    let written = lend!(raw::jd_split_left, pivots, edges, key; dest_pivots, dest_edges)?;
+    Ok(written as usize)
 }
 
 /// Cuts off what lies below the key: writes the key and the pivots above it, and the edges of
@@ -90,14 +55,8 @@ pub fn split_right(
     dest_pivots: &mut [u8],
     dest_edges: &mut [u8],
 ) -> Result<usize, Refusal> {
-    split(
-        raw::jd_split_right,
-        pivots,
-        edges,
-        key,
-        dest_pivots,
-        dest_edges,
-    )
+    let written = lend!(raw::jd_split_right, pivots, edges, key; dest_pivots, dest_edges)?;
+    Ok(written as usize)
 }
 
 /// Writes the key with its slot's edge in place of the range's prefix, or the key itself where
@@ -108,21 +67,6 @@ pub fn translate_key(
     key: &[u8],
     dest: &mut [u8],
 ) -> Result<usize, Refusal> {
-    let mut length = 0;
-    // SAFETY: the slices are good for their lengths, and `dest`, borrowed alone, overlaps none.
-    let number = unsafe {
-        raw::jd_translate_key(
-            pivots.as_ptr(),
-            pivots.len(),
-            edges.as_ptr(),
-            edges.len(),
-            key.as_ptr(),
-            key.len(),
-            dest.as_mut_ptr(),
-            dest.len(),
-            &mut length,
-        )
-    };
-    Refusal::check(number)?;
+    let length = lend!(raw::jd_translate_key, pivots, edges, key; dest)?;
     Ok(length as usize)
 }

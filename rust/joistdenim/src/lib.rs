@@ -2,8 +2,9 @@
 //!
 //! A record has 66 bytes: a length field of two bytes, high byte first, and 64 bytes, zero after
 //! the key. Length 0 to 64 is a key, 65,534 "no edge", 65,535 "max". A key or prefix argument is
-//! lent as its bytes alone. Every call answers `Ok`, or the first refusal that applies over all
-//! arguments, and a refusal changes no byte of a destination.
+//! lent as its bytes alone. A pair, an old prefix and a new one, has 133 bytes; `Pair` is one as a
+//! value. Every call answers `Ok`, or the first refusal that applies over all arguments, and a
+//! refusal changes no byte of a destination.
 //!
 //! ```
 //! let mut dest = [0; 64];
@@ -14,15 +15,24 @@
 
 mod cuts;
 mod keys;
+mod lend;
 mod list;
+mod pair;
+mod pairs;
 pub mod raw;
 mod refusal;
+mod renaming;
 mod tables;
 
 pub use cuts::{split_left, split_right, translate_key};
 pub use keys::{change_prefix, compare, entry_key, pivot_key, pivot_lcp, shortest_uncommon_prefix};
 pub use list::list_table;
+pub use pair::Pair;
+pub use pairs::{apply_pair, compose_pairs, reverse_pair, translate};
 pub use refusal::Refusal;
+pub use renaming::{
+    parent_keys_in_child_range, translate_edges, translate_pivot_pair, translate_pivots,
+};
 pub use tables::{
     bounded_key, contains_all_keys, contains_range, cutoff_for_left, cutoff_for_right, get_key,
     init_pivot_table, pivot_insertable, route, valid_left_cut_off_key, wf_edges, wf_pivots,
@@ -37,3 +47,5 @@ pub const MIN_PIVOTS: usize = 2;
 pub const MAX_PIVOTS: usize = 64;
 /// The bytes of an entry: a record with a key, and a number of four bytes.
 pub const ENTRY_SIZE: usize = 70;
+/// The bytes of a pair: a flag, two lengths of two bytes, and two prefixes in 64 bytes each.
+pub const PAIR_SIZE: usize = 5 + 2 * MAX_LEN;

@@ -1,4 +1,5 @@
 //! The list of a table, as text.
+use crate::lend::lend;
 use crate::raw;
 use crate::refusal::Refusal;
 
@@ -32,17 +33,6 @@ use crate::refusal::Refusal;
 /// # Ok::<(), joistdenim::Refusal>(())
 /// ```
 pub fn list_table(input: &[u8], dest: &mut [u8]) -> Result<usize, Refusal> {
-    let mut length = 0;
-    // SAFETY: the slices are good for their lengths, and `dest`, borrowed alone, overlaps none.
-    let number = unsafe {
-        raw::jd_list_table(
-            input.as_ptr(),
-            input.len(),
-            dest.as_mut_ptr(),
-            dest.len(),
-            &mut length,
-        )
-    };
-    Refusal::check(number)?;
+    let length = lend!(raw::jd_list_table, input; dest)?;
     Ok(length as usize)
 }

@@ -5,9 +5,13 @@
 
 mod cuts;
 mod list;
+mod pairs;
+mod renaming;
 mod tables;
 pub use cuts::*;
 pub use list::*;
+pub use pairs::*;
+pub use renaming::*;
 pub use tables::*;
 
 extern "C" {

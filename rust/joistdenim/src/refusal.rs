@@ -42,15 +42,17 @@ impl Refusal {
 
     fn text(self) -> &'static str {
         match self {
-            Refusal::Shape => "a slice isn't the records it should be",
-            Refusal::Malformed => "a malformed record, a wrong mark, or a key over 64 bytes",
+            Refusal::Shape => "a slice isn't the records or the pair it should be",
+            Refusal::Malformed => {
+                "a malformed record or pair, a wrong mark, or a key over 64 bytes"
+            }
             Refusal::Unsorted => "pivots don't rise strictly",
             Refusal::EmptyPrefix => "an edge where the range's prefix is empty",
             Refusal::OutOfRange => "the key is outside the table's range",
             Refusal::NoSuchSlot => "no such slot, or no key at that place",
-            Refusal::NotPrefix => "the old prefix doesn't begin the key",
-            Refusal::TooLong => "a produced key passes 64 bytes",
-            Refusal::NotBelow => "left isn't below right",
+            Refusal::NotPrefix => "an old prefix doesn't begin what it must",
+            Refusal::TooLong => "a produced key or prefix passes 64 bytes",
+            Refusal::NotBelow => "left isn't below right, or the last new pivot below the end",
             Refusal::NoRoom => "a destination is too short",
         }
     }

@@ -1,28 +1,10 @@
 //! The calls on tables. Pivots are 2 to 64 records: keys that rise strictly, the last may be max.
 //! Edges are one record fewer: a key or "no edge".
 use crate::keys::KEY_AT;
+use crate::lend::lend;
 use crate::raw;
 use crate::refusal::Refusal;
 use crate::RECORD_SIZE;
-
-/// A function of the archive that takes pivots and a key.
-type OfKey = unsafe extern "C" fn(*const u8, usize, *const u8, usize, *mut u64) -> u32;
-
-fn of_key(call: OfKey, pivots: &[u8], key: &[u8]) -> Result<u64, Refusal> {
-    let mut answer = 0;
-    // SAFETY: both slices are good for their lengths, and nothing but `answer` is written.
-    let number = unsafe {
-        call(
-            pivots.as_ptr(),
-            pivots.len(),
-            key.as_ptr(),
-            key.len(),
-            &mut answer,
-        )
-    };
-    Refusal::check(number)?;
-    Ok(answer)
-}
 
 /// Whether the pivots are well formed: yes, or the refusal. Refuses 1, 2, 3.
 pub fn wf_pivots(pivots: &[u8]) -> Result<(), Refusal> {
@@ -40,41 +22,27 @@ pub fn wf_edges(pivots: &[u8], edges: &[u8]) -> Result<(), Refusal> {
 
 /// Whether the table goes from ε to max. Refuses 1, 2, 3.
 pub fn contains_all_keys(pivots: &[u8]) -> Result<bool, Refusal> {
-    let mut yes = 0;
-    // SAFETY: the slice is good for its length, and nothing but `yes` is written.
-    let number = unsafe { raw::jd_contains_all_keys(pivots.as_ptr(), pivots.len(), &mut yes) };
-    Refusal::check(number)?;
+    let yes = lend!(raw::jd_contains_all_keys, pivots;)?;
     Ok(yes == 1)
 }
 
 /// Whether the table's range holds all from a left key up to a right element.
 /// Refuses 1, 2, 3, 9.
 pub fn contains_range(pivots: &[u8], left: &[u8], right: &[u8]) -> Result<bool, Refusal> {
-    let mut yes = 0;
-    // SAFETY: the slices are good for their lengths, and nothing but `yes` is written.
-    let number = unsafe {
-        raw::jd_contains_range(
-            pivots.as_ptr(),
-            pivots.len(),
-            left.as_ptr(),
-            left.len(),
-            right.as_ptr(),
-            right.len(),
-            &mut yes,
-        )
-    };
-    Refusal::check(number)?;
+    let yes = lend!(raw::jd_contains_range, pivots, left, right;)?;
     Ok(yes == 1)
 }
 
 /// Whether the key is not below the first pivot and below the last. Refuses 1, 2, 3.
 pub fn bounded_key(pivots: &[u8], key: &[u8]) -> Result<bool, Refusal> {
-    Ok(of_key(raw::jd_bounded_key, pivots, key)? == 1)
+    let yes = lend!(raw::jd_bounded_key, pivots, key;)?;
+    Ok(yes == 1)
 }
 
 /// Whether the key is above the first pivot and not above the last. Refuses 1, 2, 3.
 pub fn valid_left_cut_off_key(pivots: &[u8], key: &[u8]) -> Result<bool, Refusal> {
-    Ok(of_key(raw::jd_valid_left_cut_off_key, pivots, key)? == 1)
+    let yes = lend!(raw::jd_valid_left_cut_off_key, pivots, key;)?;
+    Ok(yes == 1)
 }
 
 /// Whether the pivots would still rise with the key put in at this place. Refuses 1, 2, 3.
@@ -106,24 +74,24 @@ pub fn get_key(pivots: &[u8], place: u64) -> Result<&[u8], Refusal> {
 
 /// Writes the first table, ε and max; answers the records written, 2. Refuses 10.
 pub fn init_pivot_table(dest: &mut [u8]) -> Result<usize, Refusal> {
-    let mut written = 0;
-    // SAFETY: the slice is good for its length, and overlaps nothing.
-    let number = unsafe { raw::jd_init_pivot_table(dest.as_mut_ptr(), dest.len(), &mut written) };
-    Refusal::check(number)?;
+    let written = lend!(raw::jd_init_pivot_table, ; dest)?;
     Ok(written as usize)
 }
 
 /// The slot of the key: the last pivot not above it. Refuses 1, 2, 3, 5.
 pub fn route(pivots: &[u8], key: &[u8]) -> Result<usize, Refusal> {
-    Ok(of_key(raw::jd_route, pivots, key)? as usize)
+    let slot = lend!(raw::jd_route, pivots, key;)?;
+    Ok(slot as usize)
 }
 
 /// The slot where a left cut at the key ends: the last pivot below it. Refuses 1, 2, 3, 5.
 pub fn cutoff_for_left(pivots: &[u8], key: &[u8]) -> Result<usize, Refusal> {
-    Ok(of_key(raw::jd_cutoff_for_left, pivots, key)? as usize)
+    let slot = lend!(raw::jd_cutoff_for_left, pivots, key;)?;
+    Ok(slot as usize)
 }
 
 /// The slot where a right cut at the key begins: the key's. Refuses 1, 2, 3, 5.
 pub fn cutoff_for_right(pivots: &[u8], key: &[u8]) -> Result<usize, Refusal> {
-    Ok(of_key(raw::jd_cutoff_for_right, pivots, key)? as usize)
+    let slot = lend!(raw::jd_cutoff_for_right, pivots, key;)?;
+    Ok(slot as usize)
 }

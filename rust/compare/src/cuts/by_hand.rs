@@ -1,9 +1,10 @@
 //! Cases with their results written down by hand, from document 01.
-use super::calls::{CALLS, SPLIT_LEFT, SPLIT_RIGHT, TRANSLATE_KEY};
+use super::calls::{CALLS, SPLIT_LEFT, SPLIT_RIGHT, TRANSLATE, TRANSLATE_KEY};
 use crate::asked::Asked;
 use crate::call::Call;
 use crate::group::{Group, Wanted};
 use crate::inputs::{field_record, record, MAX, NO_EDGE};
+use crate::pair_inputs::{pair, ABSENT};
 use crate::table_inputs::{edges_of_t, pivots_of_t, table, with};
 use Wanted::{Answer, Answers, Refusal};
 
@@ -59,11 +60,16 @@ pub fn cuts_of_t(group: &mut Group) {
     );
     at(&TRANSLATE_KEY, &[0x41, 0x31], Answer(2, &[0x43, 0x31]));
     at(&TRANSLATE_KEY, &[0x41, 0x36], Answer(2, &[0x41, 0x36]));
-    at(&TRANSLATE_KEY, &[0x42], Refusal(5));
-    at(&TRANSLATE_KEY, &[0x41], Refusal(5));
+    let there = pair(&[0x41], &[0x43]);
+    at(&TRANSLATE, &[0x41, 0x31], Answer(1, &there));
+    at(&TRANSLATE, &[0x41, 0x36], Answer(0, &ABSENT));
+    for call in [&TRANSLATE_KEY, &TRANSLATE] {
+        at(call, &[0x42], Refusal(5));
+        at(call, &[0x41], Refusal(5));
+    }
 }
 
-/// "produced 64 taken, 65 gives 8", in both cuts and in a translated key.
+/// "produced 64 taken, 65 gives 8", in both cuts.
 pub fn limits(group: &mut Group) {
     let pivots = pivots_of_t();
     let long = [0x43; 64];
@@ -104,16 +110,26 @@ pub fn limits(group: &mut Group) {
         &[0x41, 0x33],
         Answers(3, [&right, &over]),
     );
-    at(
-        &TRANSLATE_KEY,
-        &enough,
-        &[0x41, 0x31],
-        Answer(64, &grown(0x31)),
-    );
+}
+
+/// The same in a translated key, and not in its pair.
+pub fn key_limits(group: &mut Group) {
+    let pivots = pivots_of_t();
+    let long = [0x43; 64];
+    let (enough, over) = (edges_with(&long[..63]), edges_with(&long));
+    let produced = [&long[..63], &[0x31]].concat();
+    let mut at = |call: &Call, edges: &[u8], key: &[u8], wanted: Wanted| {
+        case(group, call, &[&pivots, edges, key], ROOM, wanted);
+    };
+    let key = &[0x41, 0x31];
+    at(&TRANSLATE_KEY, &enough, key, Answer(64, &produced));
     at(&TRANSLATE_KEY, &over, &[0x41, 0x31], Refusal(8));
     at(&TRANSLATE_KEY, &enough, &[0x41, 0x31, 0x00], Refusal(8));
     let full = [&[0x41, 0x36][..], &[0x07; 62]].concat();
     at(&TRANSLATE_KEY, &over, &full, Answer(64, &full));
+    // Both prefixes are the table's own, so the pair is never too long.
+    let pair = pair(&[0x41], &long);
+    at(&TRANSLATE, &over, &[0x41, 0x31, 0x00], Answer(1, &pair));
 }
 
 /// Where either destination is a byte too short, neither is written to.
@@ -140,6 +156,9 @@ pub fn destinations(group: &mut Group) {
     ] {
         case(group, &SPLIT_RIGHT, &slices, dests, Refusal(10));
     }
+    case(group, &TRANSLATE, &slices, [132, 0], Refusal(10));
+    let pair = pair(&[0x41], &[0x43]);
+    case(group, &TRANSLATE, &slices, [133, 0], Answer(1, &pair));
     case(group, &TRANSLATE_KEY, &slices, [1, 0], Refusal(10));
     case(
         group,

@@ -1,95 +1,75 @@
-//! The cuts and the translation of a key, in the archive and in the reference.
-use crate::call::Call;
-use crate::lent::Lent;
-use crate::tables::calls::{call, slot, EDGES, KEY, PIVOTS};
+//! The cuts, the translation of a key and the pair of a key's slot, in the archive and in the
+//! reference.
+use crate::call::{bytes, call, Call};
+use crate::lent::lend;
+use crate::pair_inputs::PAIR_SIZE;
+use crate::tables::calls::{EDGES, KEY, PIVOTS};
+use crate::told::{count, yes};
 use joistdenim::raw;
 
-pub static CALLS: [&Call; 3] = [&SPLIT_LEFT, &SPLIT_RIGHT, &TRANSLATE_KEY];
-
-// SAFETY of every call here: `Lent` owns the bytes, each slice is good for its length, and no
-// two overlap.
-
-fn split(call: raw::Split, lent: &mut Lent) -> u32 {
-    let [pivots, edges, key] = lent.slices();
-    let [dest_pivots, dest_edges] = lent.dests();
-    unsafe {
-        call(
-            pivots.at,
-            pivots.len,
-            edges.at,
-            edges.len,
-            key.at,
-            key.len,
-            dest_pivots.at,
-            dest_pivots.len,
-            dest_edges.at,
-            dest_edges.len,
-            lent.answer(),
-        )
-    }
-}
+pub static CALLS: [&Call; 4] = [&SPLIT_LEFT, &SPLIT_RIGHT, &TRANSLATE_KEY, &TRANSLATE];
 
 const DESTS: &[&str] = &["dest_pivots", "dest_edges"];
 
+/// The bytes of so many pivots, and of one edge fewer.
+fn written(pivots: u64) -> [usize; 2] {
+    [pivots, pivots - 1].map(|count| 66 * count as usize)
+}
+
 pub static SPLIT_LEFT: Call = Call {
     dests: DESTS,
+    written,
     ..call(
         "split_left",
         &[PIVOTS, EDGES, KEY],
-        |_, lent| split(raw::jd_split_left, lent),
+        |_, lent| lend!(lent, raw::jd_split_left, pivots, edges, key; dest_pivots, dest_edges),
         |asked, [dest_pivots, dest_edges], number| {
-            let [pivots, edges, key] = asked.slices else {
-                unreachable!("split_left has three slices")
-            };
+            let [pivots, edges, key] = asked.all();
             let written = reference::split_left(pivots, edges, key, dest_pivots, dest_edges);
-            slot(written, number)
+            count(written, number)
         },
     )
 };
 
 pub static SPLIT_RIGHT: Call = Call {
     dests: DESTS,
+    written,
     ..call(
         "split_right",
         &[PIVOTS, EDGES, KEY],
-        |_, lent| split(raw::jd_split_right, lent),
+        |_, lent| lend!(lent, raw::jd_split_right, pivots, edges, key; dest_pivots, dest_edges),
         |asked, [dest_pivots, dest_edges], number| {
-            let [pivots, edges, key] = asked.slices else {
-                unreachable!("split_right has three slices")
-            };
+            let [pivots, edges, key] = asked.all();
             let written = reference::split_right(pivots, edges, key, dest_pivots, dest_edges);
-            slot(written, number)
+            count(written, number)
         },
     )
 };
 
 pub static TRANSLATE_KEY: Call = Call {
     dests: &["dest"],
+    written: bytes,
     ..call(
         "translate_key",
         &[PIVOTS, EDGES, KEY],
-        |_, lent| {
-            let [pivots, edges, key] = lent.slices();
-            let dest = lent.dest();
-            unsafe {
-                raw::jd_translate_key(
-                    pivots.at,
-                    pivots.len,
-                    edges.at,
-                    edges.len,
-                    key.at,
-                    key.len,
-                    dest.at,
-                    dest.len,
-                    lent.answer(),
-                )
-            }
-        },
+        |_, lent| lend!(lent, raw::jd_translate_key, pivots, edges, key; dest),
         |asked, [dest, _], number| {
-            let [pivots, edges, key] = asked.slices else {
-                unreachable!("translate_key has three slices")
-            };
-            slot(reference::translate_key(pivots, edges, key, dest), number)
+            let [pivots, edges, key] = asked.all();
+            count(reference::translate_key(pivots, edges, key, dest), number)
+        },
+    )
+};
+
+pub static TRANSLATE: Call = Call {
+    dests: &["dest_pair"],
+    written: |_| [PAIR_SIZE, 0],
+    ..call(
+        "translate",
+        &[PIVOTS, EDGES, KEY],
+        |_, lent| lend!(lent, raw::jd_translate, pivots, edges, key; dest_pair),
+        |asked, [dest, _], number| {
+            let [pivots, edges, key] = asked.all();
+            yes(reference::translate(pivots, edges, key, dest), number)
         },
     )
 };

@@ -1,6 +1,4 @@
-//! Tables with edges, keys near their pivots, and destinations near what is written.
-use crate::asked::{Asked, MOST_DESTS};
-use crate::call::Call;
+//! Tables with edges, and keys near their pivots.
 use crate::inputs::{field_record, random_bytes, record, Xorshift, MAX, NO_EDGE};
 use crate::table_inputs::with;
 use reference::{range_prefix, Element};
@@ -194,36 +192,4 @@ pub fn spoil(random: &mut Xorshift, slice: &mut Vec<u8>) {
         6 => slice.extend(one),
         _ => slice.extend(random_bytes(random, 1)),
     }
-}
-
-/// Destinations around what the call writes: exactly enough, a byte short on either side and on
-/// both, room to spare, and none. Where it is refused, around what it is lent.
-pub fn dests_around(call: &Call, slices: &[&[u8]]) -> Vec<[usize; MOST_DESTS]> {
-    let (mut pivots, mut edges) = ([0; 64 * 66], [0; 64 * 66]);
-    let asked = Asked::with_dests(slices, [pivots.len(), edges.len()]);
-    let mut number = 0;
-    let status = (call.reference)(&asked, [&mut pivots, &mut edges], &mut number);
-    let number = number as usize;
-    let [first, second] = match (call.dests.len(), status) {
-        (2, 0) => [66 * number, 66 * (number - 1)],
-        (2, _) => [slices[0].len(), slices[1].len()],
-        (_, 0) => [number, 0],
-        _ => [slices[2].len(), 0],
-    };
-    let (short, next) = (first.saturating_sub(1), second.saturating_sub(1));
-    let mut dests = vec![
-        [first, second],
-        [short, second],
-        [first + 7, second],
-        [0, second],
-    ];
-    if call.dests.len() == 2 {
-        dests.extend([
-            [first, next],
-            [short, next],
-            [first + 66, second + 66],
-            [first, 0],
-        ]);
-    }
-    dests
 }

@@ -1,20 +1,13 @@
 //! Random tables, well formed and with one to three faults, the same in every run; keys near
 //! their pivots, and destinations around what is written.
-use super::inputs::{dests_around, good_table, key_near, spoil};
-use crate::asked::Asked;
+use super::inputs::{good_table, key_near, spoil};
 use crate::call::Call;
+use crate::dests::around;
 use crate::group::Group;
 use crate::inputs::Xorshift;
 
 const SEED: u64 = 20_260_627;
 const KEYS: usize = 4;
-
-/// One case for each pair of destinations around what is written.
-fn around(group: &mut Group, call: &Call, slices: &[&[u8]]) {
-    for dests in dests_around(call, slices) {
-        group.case(call, &Asked::with_dests(slices, dests));
-    }
-}
 
 pub fn good(group: &mut Group, call: &Call, count: usize) {
     let mut random = Xorshift::new(SEED);

@@ -1,8 +1,9 @@
 //! All small tables with each sort of edge in each slot, and all small keys; and destinations of
 //! every length.
-use super::inputs::{dests_around, edge_record, keys_after, Table};
+use super::inputs::{edge_record, keys_after, Table};
 use crate::asked::Asked;
 use crate::call::Call;
+use crate::dests::around;
 use crate::group::Group;
 use crate::inputs::{field_record, record, MAX};
 use crate::table_inputs::{absent, edges_of_t, pivots_of_t, rising};
@@ -93,9 +94,7 @@ pub fn destinations(group: &mut Group, call: &Call) {
         each_edges(&mut table, &[&[0x45; 64]], |table| {
             for key in keys.iter().step_by(2) {
                 let slices: [&[u8]; 3] = [&table.pivots, &table.edges, key];
-                for dests in dests_around(call, &slices) {
-                    group.case(call, &Asked::with_dests(&slices, dests));
-                }
+                around(group, call, &slices);
             }
         });
     }

@@ -3,6 +3,7 @@
 //! against the translation by the uncut table.
 use super::inputs::{edge_record, good_table, key_near, keys_after, Table};
 use super::small::{each_edges, tables, SHARED};
+use crate::answers;
 use crate::call::Hex;
 use crate::group::Group;
 use crate::inputs::{record, Xorshift};
@@ -42,10 +43,7 @@ impl Records {
 
     /// The key translated by the archive, or the refusal's number.
     fn translated(&self, key: &[u8]) -> Result<Vec<u8>, u32> {
-        let mut dest = vec![0; 64];
-        let length = joistdenim::translate_key(&self.pivots, &self.edges, key, &mut dest);
-        dest.truncate(length.map_err(joistdenim::Refusal::number)?);
-        Ok(dest)
+        answers::key(|dest| joistdenim::translate_key(&self.pivots, &self.edges, key, dest))
     }
 }
 
@@ -76,7 +74,7 @@ fn translated(table: &Table, key: &[u8]) -> Result<Vec<u8>, u32> {
     Ok(dest)
 }
 
-/// What came of the cases, so that no group goes by without a sort of them.
+/// What came of the cases.
 #[derive(Default)]
 struct Tally {
     cut: usize,
@@ -86,14 +84,9 @@ struct Tally {
 }
 
 impl Tally {
-    /// At least one in twenty of each sort.
     fn check(&self, group: &mut Group) {
-        let often = |sort: usize, other: usize| 20 * sort >= sort + other;
-        let both = |a, b| often(a, b) && often(b, a);
-        group.check(
-            both(self.cut, self.too_long) && both(self.translated, self.key_too_long),
-            || "too few cases of one sort".to_string(),
-        );
+        group.sorts(&[self.cut, self.too_long]);
+        group.sorts(&[self.translated, self.key_too_long]);
     }
 }
 

@@ -1,10 +1,11 @@
 //! The safe wrapper's cuts and translation against the reference.
-use super::calls::{SPLIT_LEFT, SPLIT_RIGHT, TRANSLATE_KEY};
-use super::inputs::{dests_around, good_table, key_near};
+use super::calls::{SPLIT_LEFT, SPLIT_RIGHT, TRANSLATE, TRANSLATE_KEY};
+use super::inputs::{good_table, key_near};
+use crate::dests::dests_around;
 use crate::group::Group;
 use crate::inputs::Xorshift;
 use crate::table_inputs::{usual_edges, usual_pivots};
-use crate::wrapper::{into, same};
+use crate::wrapper::{into_both, same};
 
 const SEED: u64 = 20_280_627;
 
@@ -30,14 +31,6 @@ macro_rules! both {
     }};
 }
 
-fn translate(group: &mut Group, slices: [&[u8]; 3], dest: usize) {
-    let [p, e, k] = slices;
-    let (got, left) = into(dest, |d| joistdenim::translate_key(p, e, k, d));
-    let (wanted, right) = into(dest, |d| reference::translate_key(p, e, k, d));
-    same(group, "translate_key", &slices, got, wanted);
-    same(group, "translate_key", &slices, Ok(left), Ok(right));
-}
-
 fn each_call(group: &mut Group, slices: [&[u8]; 3]) {
     for dests in dests_around(&SPLIT_LEFT, &slices) {
         both!(group, slices, dests, split_left);
@@ -45,8 +38,12 @@ fn each_call(group: &mut Group, slices: [&[u8]; 3]) {
     for dests in dests_around(&SPLIT_RIGHT, &slices) {
         both!(group, slices, dests, split_right);
     }
+    let [p, e, k] = slices;
     for [dest, _] in dests_around(&TRANSLATE_KEY, &slices) {
-        translate(group, slices, dest);
+        into_both!(group, dest, translate_key(p, e, k));
+    }
+    for [dest, _] in dests_around(&TRANSLATE, &slices) {
+        into_both!(group, dest, translate(p, e, k));
     }
 }
 

@@ -4,16 +4,13 @@ use crate::cuts::inputs::good_table;
 use crate::group::Group;
 use crate::inputs::Xorshift;
 use crate::list_inputs::{joined, usual_inputs};
-use crate::wrapper::{into, same};
+use crate::wrapper::into_both;
 
 const SEED: u64 = 20_300_627;
 
 fn each_dest(group: &mut Group, input: &[u8]) {
     for dest in dests_around(input) {
-        let (got, left) = into(dest, |d| joistdenim::list_table(input, d));
-        let (wanted, right) = into(dest, |d| reference::list_table(input, d));
-        same(group, "list_table", &[input], got, wanted);
-        same(group, "list_table", &[input], Ok(left), Ok(right));
+        into_both!(group, dest, list_table(input));
     }
 }
 

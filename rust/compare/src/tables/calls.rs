@@ -1,10 +1,8 @@
 //! The calls on tables, in the archive and in the reference.
-use crate::asked::Asked;
-use crate::call::{Call, Dests, Kind};
-use crate::key_calls::tell;
-use crate::lent::Lent;
+use crate::call::{call, records, Call, Kind};
+use crate::lent::lend;
+use crate::told::{count, status, yes};
 use joistdenim::raw;
-use reference::Refusal;
 
 pub const PIVOTS: (&str, Kind) = ("pivots", Kind::Pivots);
 pub const EDGES: (&str, Kind) = ("edges", Kind::Edges);
@@ -35,50 +33,14 @@ pub static OF_KEY: [&Call; 6] = [
     &CUTOFF_FOR_RIGHT,
 ];
 
-/// A call without an answer behind a pointer: the number stays as it was.
-fn status(result: Result<(), Refusal>) -> u32 {
-    result.map_or_else(Refusal::number, |()| 0)
-}
-
-fn yes(result: Result<bool, Refusal>, number: &mut u64) -> u32 {
-    tell(result.map(u64::from), number)
-}
-
-pub fn slot(result: Result<usize, Refusal>, number: &mut u64) -> u32 {
-    tell(result.map(|slot| slot as u64), number)
-}
-
-type OfKey = unsafe extern "C" fn(*const u8, usize, *const u8, usize, *mut u64) -> u32;
-
 // SAFETY of every call here: `Lent` owns the bytes, each slice is good for its length, and no
 // two overlap.
-
-fn of_key(call: OfKey, lent: &mut Lent) -> u32 {
-    let [pivots, key, _] = lent.slices();
-    unsafe { call(pivots.at, pivots.len, key.at, key.len, lent.answer()) }
-}
-
-pub const fn call(
-    name: &'static str,
-    arguments: &'static [(&'static str, Kind)],
-    archive: fn(&Asked, &mut Lent) -> u32,
-    reference: fn(&Asked, Dests, &mut u64) -> u32,
-) -> Call {
-    Call {
-        name,
-        arguments,
-        takes_place: false,
-        dests: &[],
-        archive,
-        reference,
-    }
-}
 
 pub static WF_PIVOTS: Call = call(
     "wf_pivots",
     &[PIVOTS],
     |_, lent| {
-        let [pivots, ..] = lent.slices();
+        let [pivots] = lent.slices();
         unsafe { raw::jd_wf_pivots(pivots.at, pivots.len) }
     },
     |asked, _, _| status(reference::wf_pivots(asked.slices[0])),
@@ -88,7 +50,7 @@ pub static WF_EDGES: Call = call(
     "wf_edges",
     &[PIVOTS, EDGES],
     |_, lent| {
-        let [pivots, edges, _] = lent.slices();
+        let [pivots, edges] = lent.slices();
         unsafe { raw::jd_wf_edges(pivots.at, pivots.len, edges.at, edges.len) }
     },
     |asked, _, _| status(reference::wf_edges(asked.slices[0], asked.slices[1])),
@@ -97,34 +59,16 @@ pub static WF_EDGES: Call = call(
 pub static CONTAINS_ALL_KEYS: Call = call(
     "contains_all_keys",
     &[PIVOTS],
-    |_, lent| {
-        let [pivots, ..] = lent.slices();
-        unsafe { raw::jd_contains_all_keys(pivots.at, pivots.len, lent.answer()) }
-    },
+    |_, lent| lend!(lent, raw::jd_contains_all_keys, pivots;),
     |asked, _, number| yes(reference::contains_all_keys(asked.slices[0]), number),
 );
 
 pub static CONTAINS_RANGE: Call = call(
     "contains_range",
     &[PIVOTS, ("left", Kind::Key), ("right", Kind::Record)],
-    |_, lent| {
-        let [pivots, left, right] = lent.slices();
-        unsafe {
-            raw::jd_contains_range(
-                pivots.at,
-                pivots.len,
-                left.at,
-                left.len,
-                right.at,
-                right.len,
-                lent.answer(),
-            )
-        }
-    },
+    |_, lent| lend!(lent, raw::jd_contains_range, pivots, left, right;),
     |asked, _, number| {
-        let [pivots, left, right] = asked.slices else {
-            unreachable!("contains_range has three slices")
-        };
+        let [pivots, left, right] = asked.all();
         yes(reference::contains_range(pivots, left, right), number)
     },
 );
@@ -132,7 +76,7 @@ pub static CONTAINS_RANGE: Call = call(
 pub static BOUNDED_KEY: Call = call(
     "bounded_key",
     &[PIVOTS, KEY],
-    |_, lent| of_key(raw::jd_bounded_key, lent),
+    |_, lent| lend!(lent, raw::jd_bounded_key, pivots, key;),
     |asked, _, number| {
         yes(
             reference::bounded_key(asked.slices[0], asked.slices[1]),
@@ -144,7 +88,7 @@ pub static BOUNDED_KEY: Call = call(
 pub static VALID_LEFT_CUT_OFF_KEY: Call = call(
     "valid_left_cut_off_key",
     &[PIVOTS, KEY],
-    |_, lent| of_key(raw::jd_valid_left_cut_off_key, lent),
+    |_, lent| lend!(lent, raw::jd_valid_left_cut_off_key, pivots, key;),
     |asked, _, number| {
         let valid = reference::valid_left_cut_off_key(asked.slices[0], asked.slices[1]);
         yes(valid, number)
@@ -157,7 +101,7 @@ pub static PIVOT_INSERTABLE: Call = Call {
         "pivot_insertable",
         &[PIVOTS, KEY],
         |asked, lent| {
-            let [pivots, key, _] = lent.slices();
+            let [pivots, key] = lent.slices();
             let (at, place) = (lent.answer(), asked.place);
             unsafe { raw::jd_pivot_insertable(pivots.at, pivots.len, place, key.at, key.len, at) }
         },
@@ -177,42 +121,40 @@ pub static GET_KEY: Call = Call {
         "get_key",
         &[PIVOTS],
         |asked, lent| {
-            let [pivots, ..] = lent.slices();
+            let [pivots] = lent.slices();
             unsafe { raw::jd_get_key(pivots.at, pivots.len, asked.place, lent.answer()) }
         },
         |asked, _, number| {
             let key = reference::get_key(asked.slices[0], asked.place);
-            slot(key.map(<[u8]>::len), number)
+            count(key.map(<[u8]>::len), number)
         },
     )
 };
 
 pub static INIT_PIVOT_TABLE: Call = Call {
     dests: &["dest"],
+    written: records,
     ..call(
         "init_pivot_table",
         &[],
-        |_, lent| {
-            let dest = lent.dest();
-            unsafe { raw::jd_init_pivot_table(dest.at, dest.len, lent.answer()) }
-        },
-        |_, [dest, _], number| slot(reference::init_pivot_table(dest), number),
+        |_, lent| lend!(lent, raw::jd_init_pivot_table, ; dest),
+        |_, [dest, _], number| count(reference::init_pivot_table(dest), number),
     )
 };
 
 pub static ROUTE: Call = call(
     "route",
     &[PIVOTS, KEY],
-    |_, lent| of_key(raw::jd_route, lent),
-    |asked, _, number| slot(reference::route(asked.slices[0], asked.slices[1]), number),
+    |_, lent| lend!(lent, raw::jd_route, pivots, key;),
+    |asked, _, number| count(reference::route(asked.slices[0], asked.slices[1]), number),
 );
 
 pub static CUTOFF_FOR_LEFT: Call = call(
     "cutoff_for_left",
     &[PIVOTS, KEY],
-    |_, lent| of_key(raw::jd_cutoff_for_left, lent),
+    |_, lent| lend!(lent, raw::jd_cutoff_for_left, pivots, key;),
     |asked, _, number| {
-        slot(
+        count(
             reference::cutoff_for_left(asked.slices[0], asked.slices[1]),
             number,
         )
@@ -222,9 +164,9 @@ pub static CUTOFF_FOR_LEFT: Call = call(
 pub static CUTOFF_FOR_RIGHT: Call = call(
     "cutoff_for_right",
     &[PIVOTS, KEY],
-    |_, lent| of_key(raw::jd_cutoff_for_right, lent),
+    |_, lent| lend!(lent, raw::jd_cutoff_for_right, pivots, key;),
     |asked, _, number| {
-        slot(
+        count(
             reference::cutoff_for_right(asked.slices[0], asked.slices[1]),
             number,
         )

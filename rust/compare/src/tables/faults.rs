@@ -16,6 +16,7 @@ fn with_pivots(group: &mut Group, call: &Call, pivots: Vec<u8>) {
         .iter()
         .map(|(_, kind)| match kind {
             Kind::Pivots => vec![pivots.clone()],
+            Kind::Child => vec![rising(3), pivots.clone()],
             Kind::Edges => {
                 let counts = edges.saturating_sub(1)..=edges + 2;
                 let wrong = field_record(MAX).repeat(edges);
@@ -36,17 +37,26 @@ fn with_pivots(group: &mut Group, call: &Call, pivots: Vec<u8>) {
 
 /// From 0 to 66 pivots, whole, one byte short and one byte more.
 pub fn counts(group: &mut Group, call: &Call) {
+    each_count(|pivots| with_pivots(group, call, pivots));
+}
+
+pub fn each_count(mut body: impl FnMut(Vec<u8>)) {
     for count in 0..=66 {
         let whole = rising(count);
-        with_pivots(group, call, [&whole[..], &[0]].concat());
+        body([&whole[..], &[0]].concat());
         if let Some((_, short)) = whole.split_last() {
-            with_pivots(group, call, short.to_vec());
+            body(short.to_vec());
         }
-        with_pivots(group, call, whole);
+        body(whole);
     }
 }
 
 pub fn each_place(group: &mut Group, call: &Call) {
+    each_fault(|pivots| with_pivots(group, call, pivots));
+}
+
+/// Tables of 2, 3 and 64 pivots with each fault at each place.
+pub fn each_fault(mut body: impl FnMut(Vec<u8>)) {
     for count in [2, 3, 64] {
         let good = rising(count);
         for place in 0..count {
@@ -62,7 +72,7 @@ pub fn each_place(group: &mut Group, call: &Call) {
                 record(&longer),
             ];
             for other in others {
-                with_pivots(group, call, with(&good, place, &other));
+                body(with(&good, place, &other));
             }
         }
     }

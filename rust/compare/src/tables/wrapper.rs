@@ -2,7 +2,7 @@
 use crate::group::Group;
 use crate::inputs::{counted, field_record, record, MAX};
 use crate::table_inputs::{usual_edges, usual_pivots};
-use crate::wrapper::{into, same};
+use crate::wrapper::{into_both, same};
 
 /// One call of the wrapper and of the reference.
 macro_rules! both {
@@ -35,10 +35,7 @@ pub fn tables(group: &mut Group) {
         }
     }
     for dest in [131, 132, 133] {
-        let (got, left) = into(dest, joistdenim::init_pivot_table);
-        let (wanted, right) = into(dest, reference::init_pivot_table);
-        same(group, "init_pivot_table", &[], got, wanted);
-        same(group, "init_pivot_table", &[], Ok(left), Ok(right));
+        into_both!(group, dest, init_pivot_table());
     }
 }
 

@@ -41,18 +41,3 @@ extern "C" {
         length: *mut u64,
     ) -> u32;
 }
-
-/// A function that cuts a table into two destinations.
-pub type Split = unsafe extern "C" fn(
-    *const u8,
-    usize,
-    *const u8,
-    usize,
-    *const u8,
-    usize,
-    *mut u8,
-    usize,
-    *mut u8,
-    usize,
-    *mut u64,
-) -> u32;

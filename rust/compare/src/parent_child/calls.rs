@@ -1,0 +1,30 @@
+//! The question of parent and child, in the archive and in the reference.
+use crate::call::{call, Call, Kind};
+use crate::told::yes;
+use joistdenim::raw;
+
+pub static PARENT_KEYS_IN_CHILD_RANGE: Call = Call {
+    takes_place: true,
+    ..call(
+        "parent_keys_in_child_range",
+        &[
+            ("parent_pivots", Kind::Pivots),
+            ("parent_edges", Kind::Edges),
+            ("child_pivots", Kind::Child),
+        ],
+        |asked, lent| {
+            let [p, e, c] = lent.slices();
+            let (at, slot) = (lent.answer(), asked.place);
+            // SAFETY: `Lent` owns the bytes, each slice is good for its length, and no two
+            // overlap.
+            unsafe {
+                raw::jd_parent_keys_in_child_range(p.at, p.len, e.at, e.len, c.at, c.len, slot, at)
+            }
+        },
+        |asked, _, number| {
+            let [p, e, c] = asked.all();
+            let slot = asked.place;
+            yes(reference::parent_keys_in_child_range(p, e, c, slot), number)
+        },
+    )
+};

@@ -1,0 +1,43 @@
+//! Pairs, and the pair of a key in a table.
+
+extern "C" {
+    pub fn jd_translate(
+        pivots: *const u8,
+        pivots_len: usize,
+        edges: *const u8,
+        edges_len: usize,
+        key: *const u8,
+        key_len: usize,
+        dest_pair: *mut u8,
+        dest_pair_len: usize,
+        there: *mut u64,
+    ) -> u32;
+
+    pub fn jd_reverse_pair(
+        pair: *const u8,
+        pair_len: usize,
+        dest_pair: *mut u8,
+        dest_pair_len: usize,
+        there: *mut u64,
+    ) -> u32;
+
+    pub fn jd_apply_pair(
+        pair: *const u8,
+        pair_len: usize,
+        key: *const u8,
+        key_len: usize,
+        dest: *mut u8,
+        dest_len: usize,
+        length: *mut u64,
+    ) -> u32;
+
+    pub fn jd_compose_pairs(
+        pair_a: *const u8,
+        pair_a_len: usize,
+        pair_b: *const u8,
+        pair_b_len: usize,
+        dest_pair: *mut u8,
+        dest_pair_len: usize,
+        there: *mut u64,
+    ) -> u32;
+}

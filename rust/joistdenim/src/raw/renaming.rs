@@ -1,0 +1,52 @@
+//! Pivots and edges under another prefix, and the question of parent and child.
+
+extern "C" {
+    pub fn jd_translate_pivot_pair(
+        left: *const u8,
+        left_len: usize,
+        right: *const u8,
+        right_len: usize,
+        prefix: *const u8,
+        prefix_len: usize,
+        new_prefix: *const u8,
+        new_prefix_len: usize,
+        dest: *mut u8,
+        dest_len: usize,
+        written: *mut u64,
+    ) -> u32;
+
+    pub fn jd_translate_pivots(
+        pivots: *const u8,
+        pivots_len: usize,
+        prefix: *const u8,
+        prefix_len: usize,
+        new_prefix: *const u8,
+        new_prefix_len: usize,
+        end: *const u8,
+        end_len: usize,
+        dest: *mut u8,
+        dest_len: usize,
+        written: *mut u64,
+    ) -> u32;
+
+    pub fn jd_translate_edges(
+        pivots: *const u8,
+        pivots_len: usize,
+        edges: *const u8,
+        edges_len: usize,
+        dest: *mut u8,
+        dest_len: usize,
+        written: *mut u64,
+    ) -> u32;
+
+    pub fn jd_parent_keys_in_child_range(
+        parent_pivots: *const u8,
+        parent_pivots_len: usize,
+        parent_edges: *const u8,
+        parent_edges_len: usize,
+        child_pivots: *const u8,
+        child_pivots_len: usize,
+        slot: u64,
+        yes: *mut u64,
+    ) -> u32;
+}
