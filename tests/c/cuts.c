@@ -1,8 +1,9 @@
 /*
  * The cuts and the translation of a key from C: document 01's rows 14 and 15 and its examples of
- * T, the limits of 64 bytes, both destinations, and which refusal comes first.
+ * T, the limits of 64 bytes, both destinations, and which refusal comes first, the last also for
+ * the pair of a key.
  */
-#include "table.h"
+#include "pair.h"
 
 static pair t(void)
 {
@@ -156,6 +157,12 @@ static void translate_refuses(const char *name, pair table, slice k, uint32_t wa
     translate(name, table, k, ROOM, wanted, none);
 }
 
+static void pair_refuses(const char *name, pair table, slice k, uint32_t wanted)
+{
+    pair_of(name, table, k, 0, wanted, none);
+    pair_of(name, table, k, ROOM, wanted, none);
+}
+
 static void refusals(refusal_check *refuses)
 {
     slice e = edges_of_t(), max = record(JD_MAX, none), c = key(BYTES("C"));
@@ -239,6 +246,7 @@ int main(void)
     refusals(left_refuses);
     refusals(right_refuses);
     refusals(translate_refuses);
+    refusals(pair_refuses);
     two_orders();
     two_orders_refused();
     return report();

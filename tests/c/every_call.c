@@ -1,10 +1,12 @@
 /*
  * Each function on single keys from C: a normal case, each of its refusals, and which refusal
  * comes first where two apply. Around every destination stand bytes that must not change. Then a
- * key's way through a table: cuts and translations, whose refusals are in cuts.c. Then a table's
- * list; more of it is in list.c.
+ * key's way through a table: cuts and translations, whose refusals are in cuts.c. Then pairs,
+ * renamed pivots and edges, parent and child, and a table's list; more of these is in pairs.c,
+ * renaming.c and list.c.
  */
-#include "table.h"
+#include "pair.h"
+#include "renaming.h"
 
 /* ---- compare */
 
@@ -183,6 +185,42 @@ static void key_through_t(void)
     translate("translate_key: 5", t, BYTES("B"), ROOM, JD_OUT_OF_RANGE, none);
 }
 
+/* ---- the key's pair, undone, composed and applied */
+
+static void pairs_of_t(void)
+{
+    pair t = {pivots_of_t(), edges_of_t()};
+    slice a_to_c = from_to(BYTES("A"), BYTES("C")), c_to_a = from_to(BYTES("C"), BYTES("A"));
+    slice longer = from_to(BYTES("A1"), BYTES("P"));
+    pair_of("translate: an edge", t, BYTES("A17"), JD_PAIR_SIZE, 0, a_to_c);
+    pair_of("translate: no edge", t, BYTES("A6"), JD_PAIR_SIZE, 0, absent_pair);
+    pair_of("translate: 5", t, BYTES("B"), ROOM, JD_OUT_OF_RANGE, none);
+    applied("apply_pair: the key", a_to_c, BYTES("A17"), 3, 0, BYTES("C17"));
+    applied("apply_pair: 7", c_to_a, BYTES("A17"), ROOM, JD_NOT_PREFIX, none);
+    reversed("reverse_pair", a_to_c, JD_PAIR_SIZE, 0, c_to_a);
+    reversed("reverse_pair: 1", head(a_to_c, 132), ROOM, JD_SHAPE, none);
+    composed("compose_pairs", a_to_c, longer, ROOM, 0, from_to(BYTES("P"), BYTES("C1")));
+    composed("compose_pairs: 7", c_to_a, a_to_c, ROOM, JD_NOT_PREFIX, none);
+}
+
+/* ---- a shelf under another prefix: its range, its pivots and its edges */
+
+static void shelf_moved(void)
+{
+    pair t = {pivots_of_t(), edges_of_t()};
+    slice b = key(BYTES("B")), d = key(BYTES("D")), c0 = key(BYTES("C0")), c5 = key(BYTES("C5"));
+    prefixes p = {BYTES("A"), BYTES("C")}, other = {BYTES("B"), BYTES("C")};
+    moved("translate_pivot_pair", (range){BYTES("A0"), b}, p, CUT_ROOM, 0, TABLE(c0, d));
+    moved("translate_pivot_pair: 9", (range){BYTES("B"), b}, other, 0, JD_NOT_BELOW, none);
+    renamed("translate_pivots", t.pivots, p, d, CUT_ROOM, 0, TABLE(c0, c5, d));
+    renamed("translate_pivots: 7", t.pivots, other, d, CUT_ROOM, JD_NOT_PREFIX, none);
+    filled("translate_edges", t, CUT_ROOM, 0, TABLE(key(BYTES("C")), key(BYTES("A"))));
+    filled("translate_edges: 10", t, 131, JD_NO_ROOM, none);
+    in_child("parent_keys_in_child_range: yes", t, TABLE(c0, d), 0, 0, 1);
+    in_child("parent_keys_in_child_range: no", t, TABLE(c0, d), 1, 0, 0);
+    in_child("parent_keys_in_child_range: 6", t, TABLE(c0, d), 2, JD_NO_SUCH_SLOT, 0);
+}
+
 /* ---- the list of a table */
 
 static void list_table_checks(void)
@@ -203,6 +241,8 @@ int main(void)
     pivot_lcp_checks();
     shortest_uncommon_prefix_checks();
     key_through_t();
+    pairs_of_t();
+    shelf_moved();
     list_table_checks();
     return report();
 }
