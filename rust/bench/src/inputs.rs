@@ -1,4 +1,5 @@
 //! Keys, records and tables, the same in every run.
+use crate::lent::Slices;
 use joistdenim::RECORD_SIZE;
 use std::rc::Rc;
 
@@ -42,6 +43,37 @@ impl Xorshift {
     pub fn bytes(&mut self, len: usize) -> Vec<u8> {
         (0..len).map(|_| self.below(0xFF) as u8).collect()
     }
+}
+
+/// Many, so that the branches of one pass aren't learned by heart.
+const INPUTS: usize = 64;
+
+/// Inputs of a case, of four kinds in turn.
+pub fn inputs<const S: usize>(mut one: impl FnMut(usize) -> Slices<S>) -> Vec<Slices<S>> {
+    (0..INPUTS).map(|i| one(i % 4)).collect()
+}
+
+/// A prefix of the key, of any length, and another one that isn't longer.
+pub fn prefixes(random: &mut Xorshift, key: &[u8]) -> Slices<2> {
+    let old = random.below(key.len() + 1);
+    let new = random.below(old + 1);
+    let new = random.bytes(new);
+    [key[..old].into(), new.into()]
+}
+
+/// A range from a left key: up to a key that goes on after the first difference, up to one that
+/// ends there, the same with FF after it on the left, and up to max with FF alone on the left.
+pub fn range(random: &mut Xorshift, key: usize, kind: usize) -> Slices<2> {
+    let mut left = random.bytes(key);
+    let run = random.below(key);
+    let mut right = [&left[..run], &[left[run] + 1]].concat();
+    match kind {
+        0 => right.extend(random.bytes(key - run - 1)),
+        1 => {}
+        2 => left[run + 1..].fill(0xFF),
+        _ => return [vec![0xFF; key].into(), record(MAX, &[])],
+    }
+    [left.into(), key_record(&right)]
 }
 
 /// A well-formed table. The pivots share the first half of their bytes, which is so the prefix of
@@ -90,6 +122,11 @@ impl Table {
             pivots: pivots.into(),
             edges: edges.into(),
         }
+    }
+
+    /// What all pivots begin with.
+    pub fn prefix(&self) -> Rc<[u8]> {
+        self.keys[0][..self.shared].into()
     }
 
     /// The table as its list is asked for: the count of the pivots before them and the edges.

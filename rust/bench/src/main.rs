@@ -5,6 +5,7 @@ mod floor;
 mod inputs;
 mod key_calls;
 mod lent;
+mod pair_calls;
 mod placement;
 mod report;
 mod sides;
@@ -36,6 +37,7 @@ fn main() -> ExitCode {
     placement::keep();
     let mut random = Xorshift::new(SEED);
     let mut cases = key_calls::cases(&mut random);
+    cases.extend(pair_calls::cases(&mut random));
     cases.extend(table_calls::cases(&mut random));
     for case in &mut cases {
         case.calibrate();

@@ -1,7 +1,7 @@
 //! The printed tables, in Markdown, so that they can stand in a document as they are.
 use crate::case::Case;
 use crate::timing::{ratio, spread};
-use crate::{key_calls, table_calls};
+use crate::{key_calls, pair_calls, table_calls};
 
 /// Up to here a ratio is printed as 1.00 or less.
 const EVEN: f64 = 1.005;
@@ -34,7 +34,7 @@ fn header(columns: &[&str]) {
 
 fn keys(cases: &[Case]) {
     header(&["call", "key bytes", "lib/ref", "lib/floor"]);
-    for call in key_calls::CALLS {
+    for call in key_calls::CALLS.into_iter().chain(pair_calls::CALLS) {
         for key in key_calls::KEYS {
             let case = find(cases, call, key, 0);
             row(call, key, [to_reference(case), to_floor(case)]);
@@ -76,6 +76,9 @@ fn checks(cases: &[Case]) {
         ("translate_key", "wf_edges"),
         ("split_left", "wf_edges"),
         ("split_right", "wf_edges"),
+        ("translate", "wf_edges"),
+        ("translate_pivots", "wf_pivots"),
+        ("translate_edges", "wf_edges"),
         ("list_table", "wf_edges"),
     ];
     for (call, check) in pairs {

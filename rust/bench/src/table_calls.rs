@@ -1,16 +1,20 @@
 //! The calls on tables.
 use crate::case::Case;
-use crate::inputs::{Table, Xorshift};
+use crate::inputs::{record, Table, Xorshift, MAX};
 use crate::sides::case;
-use joistdenim::RECORD_SIZE;
+use joistdenim::{PAIR_SIZE, RECORD_SIZE};
 
-pub const CALLS: [&str; 7] = [
+pub const CALLS: [&str; 11] = [
     "wf_pivots",
     "wf_edges",
     "route",
     "translate_key",
     "split_left",
     "split_right",
+    "translate",
+    "translate_pivots",
+    "translate_edges",
+    "parent_keys_in_child_range",
     "list_table",
 ];
 /// Below 64, so that an edge has room to grow.
@@ -20,11 +24,11 @@ pub const PIVOTS: [usize; 3] = [2, 8, 64];
 const TABLES: usize = 4;
 const KEYS_PER_TABLE: usize = 4;
 
-fn cases_of(random: &mut Xorshift, size: (usize, usize)) -> Vec<Case> {
+/// The calls that are lent a table alone, or a table and a key.
+fn cases_of_key(random: &mut Xorshift, size: (usize, usize), tables: &[Table]) -> Vec<Case> {
     let (mut pivots, mut edges, mut routes, mut asked) = (vec![], vec![], vec![], vec![]);
     let mut lists = vec![];
-    for _ in 0..TABLES {
-        let table = Table::new(random, size.0, size.1);
+    for table in tables {
         for _ in 0..KEYS_PER_TABLE {
             // The checks are asked as often as the others, so that their costs can be compared.
             pivots.push([table.pivots.clone()]);
@@ -36,6 +40,8 @@ fn cases_of(random: &mut Xorshift, size: (usize, usize)) -> Vec<Case> {
         }
     }
     let both = |count| [count * RECORD_SIZE, (count - 1) * RECORD_SIZE];
+    let pair = |_| [PAIR_SIZE];
+    let records = |count| [count * RECORD_SIZE];
     vec![
         case!(size, &pivots, wf_pivots(p;), |()| 0, |_| []),
         case!(size, &edges, wf_edges(p, e;), |()| 0, |_| []),
@@ -43,8 +49,50 @@ fn cases_of(random: &mut Xorshift, size: (usize, usize)) -> Vec<Case> {
         case!(size, &asked, translate_key(p, e, k; dest), |len| len, |len| [len]),
         case!(size, &asked, split_left(p, e, k; dest_pivots, dest_edges), |count| count, both),
         case!(size, &asked, split_right(p, e, k; dest_pivots, dest_edges), |count| count, both),
+        case!(size, &asked, translate(p, e, k; dest), |yes| usize::from(yes), pair),
+        case!(size, &edges, translate_edges(p, e; dest), |count| count, records),
         case!(size, &lists, list_table(input; dest), |len| len, |len| [len]),
     ]
+}
+
+/// The calls that are lent more: a new prefix and an end, or a child of as many pivots.
+fn cases_of_more(random: &mut Xorshift, size: (usize, usize), tables: &[Table]) -> Vec<Case> {
+    let (mut renamed, mut families) = (vec![], vec![]);
+    for table in tables {
+        for _ in 0..KEYS_PER_TABLE {
+            let prefix = table.prefix();
+            let new = random.bytes(prefix.len()).into();
+            renamed.push([table.pivots.clone(), prefix, new, record(MAX, &[])]);
+            let child = Table::new(random, size.0, size.1);
+            families.push([table.pivots.clone(), table.edges.clone(), child.pivots]);
+        }
+    }
+    let slot = size.1 as u64 / 2 - 1;
+    vec![
+        case!(
+            size,
+            &renamed,
+            translate_pivots(p, old, new, end; dest),
+            |count| count,
+            |count| [count * RECORD_SIZE]
+        ),
+        case!(
+            size,
+            &families,
+            parent_keys_in_child_range(p, e, c; ; slot),
+            |yes| usize::from(yes),
+            |_| []
+        ),
+    ]
+}
+
+fn cases_of(random: &mut Xorshift, size: (usize, usize)) -> Vec<Case> {
+    let tables: Vec<Table> = (0..TABLES)
+        .map(|_| Table::new(random, size.0, size.1))
+        .collect();
+    let mut cases = cases_of_key(random, size, &tables);
+    cases.extend(cases_of_more(random, size, &tables));
+    cases
 }
 
 pub fn cases(random: &mut Xorshift) -> Vec<Case> {
