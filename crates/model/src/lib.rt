@@ -8,6 +8,8 @@ pub const RECORD_SIZE: usize = 66;
 
 pub const ENTRY_SIZE: usize = 70;
 
+pub const MAX_ENTRIES: usize = 512;
+
 pub const MIN_PIVOTS: usize = 2;
 
 pub const MAX_PIVOTS: usize = 64;

@@ -1,0 +1,5 @@
+pub mod Places
+pub mod Counts
+pub mod Checking
+pub mod OneEntry
+pub mod Measuring

@@ -1,0 +1,19 @@
+-- `buckets::entry_reads` meets its contract.
+use Rattle.model.proofs.Lists.{part-counts}
+use borrow.Author.Needs.{needs}
+use Rattle.buckets.proofs.check.entry_reads.Statement.{statement}
+use Rattle.buckets.proofs.check.entry_reads.Tie as tie
+
+ruleset rules = (needs, part-counts)
+
+slice-aggregate-holds : tie.Need-slice-aggregate-holds
+slice-aggregate-holds c = search rules
+
+holds-requires : tie.Need-holds-requires
+holds-requires c κs = search rules
+
+returns : tie.Need-returns
+returns c = search rules
+
+pub entry-reads-spec : {M : Type 1} → statement M
+entry-reads-spec = tie.close (tie.spec slice-aggregate-holds holds-requires returns)

@@ -1,0 +1,34 @@
+-- `buckets::measure_entry` meets its contract.
+use Rattle.buckets.proofs.Places.{record-first}
+use Rattle.buckets.proofs.OneEntry.{none-counted, beyond-prefix, changed-fits, long-refused, one-counted}
+use borrow.Author.Needs.{needs}
+use Rattle.buckets.proofs.measure.measure_entry.Statement.{statement}
+use Rattle.buckets.proofs.measure.measure_entry.Tie as tie
+
+ruleset rules = (needs, record-first, none-counted, beyond-prefix, changed-fits, long-refused, one-counted)
+
+begins-with-requires : tie.Need-begins-with-requires
+begins-with-requires c κs = search rules
+
+returns : tie.Need-returns
+returns c = search rules
+
+key-of-requires : tie.Need-key-of-requires
+key-of-requires c κs = search rules
+
+sub-if2 : tie.Need-sub-if2
+sub-if2 c = search rules
+
+add-if2 : tie.Need-add-if2
+add-if2 c = search rules
+
+returns-2 : tie.Need-returns-2
+returns-2 c = search rules
+
+returns-3 : tie.Need-returns-3
+returns-3 c = search rules
+
+pub measure-entry-spec : {M : Type 1} → statement M
+measure-entry-spec =
+    tie.close
+    (tie.spec begins-with-requires returns key-of-requires sub-if2 add-if2 returns-2 returns-3)

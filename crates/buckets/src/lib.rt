@@ -1,0 +1,10 @@
+// Buckets: their check, their translation, and whether it would be accepted. No public function has a `requires`.
+mod check;
+mod entry;
+mod measure;
+mod translate;
+mod write;
+
+pub use check::check_bucket;
+pub use translate::translate_bucket;
+pub use translate::translate_bucket_will_fit;

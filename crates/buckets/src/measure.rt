@@ -1,0 +1,54 @@
+// What is looked at before anything is written: the keys produced, and the room.
+use crate::entry::begins_with;
+use crate::entry::entry_at;
+use crate::entry::key_of;
+use model::Answer;
+use model::ENTRY_SIZE;
+use model::MAX_LEN;
+use model::Refusal;
+ghost use mathlib.Core.Path.{_≡_};
+ghost use Prim.Native.Nat.{_≤_};
+ghost use lib.ListN.{length};
+ghost use Rattle.model.specs.calls.Refusals.{answer};
+ghost use Rattle.model.specs.calls.BucketCalls.{newBucket, neededBytes};
+ghost use Rattle.buckets.specs.Kept.{Checked, Good, keptOf, longCauses};
+
+// Cause 8 of one entry; else 1 where it is kept, and 0 where its key doesn't begin with the prefix.
+fn measure_entry(entry: &[u8], prefix: &[u8], new_prefix: &[u8]) -> Answer
+    requires { ⌜ (Checked (now entry)) × (length (now «new_prefix») ≤ 64) ⌝ }
+    ensures { λ r. ⌜ r ≡ answer (longCauses (keptOf (now (entry .entry)) (now (prefix .entry)) (now («new_prefix» .entry)))) (length (keptOf (now (entry .entry)) (now (prefix .entry)) (now («new_prefix» .entry)))) ⌝ }
+{
+    if !begins_with(entry, prefix) {
+        return Answer::Value(0);
+    }
+    if MAX_LEN < new_prefix.len() + (key_of(entry).len() - prefix.len()) {
+        return Answer::Refused(Refusal::TooLong);
+    }
+    Answer::Value(1)
+}
+
+// Cause 8 of the entries that are kept; else their count.
+pub fn measure(bucket: &[u8], prefix: &[u8], new_prefix: &[u8]) -> Answer
+    requires { ⌜ Good (now bucket) (now prefix) (now «new_prefix») ⌝ }
+    ensures { λ r. ⌜ r ≡ answer (longCauses (newBucket (now (bucket .entry)) (now (prefix .entry)) (now («new_prefix» .entry)))) (length (newBucket (now (bucket .entry)) (now (prefix .entry)) (now («new_prefix» .entry)))) ⌝ }
+{
+    let count = bucket.len() / ENTRY_SIZE;
+    let mut kept = 0;
+    let mut i = 0;
+    while i < count {
+        let measured = measure_entry(entry_at(bucket, i), prefix, new_prefix);
+        let Answer::Value(n) = measured else {
+            return measured;
+        };
+        kept += n;
+        i += 1;
+    }
+    Answer::Value(kept)
+}
+
+// The bytes that the destination must hold: as many entries as the bucket.
+pub fn needed(bucket: &[u8]) -> usize
+    ensures { λ r. ⌜ r ≡ length (now (bucket .entry)) ⌝ }
+{
+    bucket.len()
+}

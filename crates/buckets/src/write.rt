@@ -1,0 +1,81 @@
+// The entries that are kept, written one after the other.
+use crate::entry::begins_with;
+use crate::entry::entry_at;
+use crate::entry::key_of;
+use model::ENTRY_SIZE;
+use model::RECORD_SIZE;
+ghost use mathlib.Core.Path.{_≡_};
+ghost use mathlib.Core.Bool.{true};
+ghost use mathlib.Core.List.{_++_};
+ghost use Prim.Native.Nat.{_+_, _*_, _≤_};
+ghost use lib.ListN.{length};
+ghost use Rattle.model.specs.keys.Key.{IsPrefix, maxLen};
+ghost use Rattle.model.specs.records.Record.{recordSize, zeros, recordOf};
+ghost use Rattle.model.specs.tables.Tables.{all};
+ghost use Rattle.model.specs.buckets.Bucket.{entrySize, entryOf, encodeEntry, encodeBucket, translateEntry};
+ghost use Rattle.model.specs.calls.Refusals.{over};
+ghost use Rattle.model.specs.calls.BucketCalls.{shortEntry, newBucket};
+ghost use Rattle.buckets.specs.Kept.{Checked, Good, keptOf, keptBytes};
+
+// Writes a record's worth of zeros to the head of dest.
+fn clear(dest: &mut [u8])
+    requires { ⌜ recordSize ≤ length (now dest) ⌝ }
+    ensures { λ _. ⌜ now (dest .exit) ≡ over (zeros recordSize) (now (dest .entry)) ⌝ }
+{
+    let mut i = 0;
+    while i < RECORD_SIZE {
+        dest[i] = 0;
+        i += 1;
+    }
+}
+
+// Writes the record of a key in two parts to the head of dest.
+fn put_key(first: &[u8], rest: &[u8], dest: &mut [u8])
+    requires { ⌜ (length (now first) + length (now rest) ≤ maxLen) × (recordSize ≤ length (now dest)) ⌝ }
+    ensures { λ _. ⌜ now (dest .exit) ≡ over (recordOf (length (now (first .entry) ++ now (rest .entry))) (now (first .entry) ++ now (rest .entry))) (now (dest .entry)) ⌝ }
+{
+    let n = (first.len() + rest.len()) as u8;
+    clear(dest);
+    dest[1] = n;
+    records::join(first, rest, &mut dest[2..]);
+}
+
+// Writes the translation of an entry whose key begins with the prefix to the head of dest.
+fn put_kept(entry: &[u8], prefix: &[u8], new_prefix: &[u8], dest: &mut [u8])
+    requires { ⌜ (Checked (now entry)) × (IsPrefix (now prefix) (entryOf (now entry) .key) ≡ true) × (shortEntry (translateEntry (now prefix) (now «new_prefix») (entryOf (now entry))) ≡ true) × (entrySize ≤ length (now dest)) ⌝ }
+    ensures { λ _. ⌜ now (dest .exit) ≡ over (encodeEntry (translateEntry (now (prefix .entry)) (now («new_prefix» .entry)) (entryOf (now (entry .entry))))) (now (dest .entry)) ⌝ }
+{
+    let key = key_of(entry);
+    let from = prefix.len();
+    put_key(new_prefix, &key[from..], dest);
+    records::copy(&entry[RECORD_SIZE..], &mut dest[RECORD_SIZE..]);
+}
+
+// Writes what an entry leaves to the head of dest: its translation where its key begins with the prefix, else nothing. Answers
+// the bytes written.
+fn put_entry(entry: &[u8], prefix: &[u8], new_prefix: &[u8], dest: &mut [u8]) -> usize
+    requires { ⌜ (Checked (now entry)) × (all shortEntry (keptOf (now entry) (now prefix) (now «new_prefix»)) ≡ true) × (length (keptBytes (now entry) (now prefix) (now «new_prefix»)) ≤ length (now dest)) ⌝ }
+    ensures count { λ r. ⌜ r ≡ length (keptBytes (now (entry .entry)) (now (prefix .entry)) (now («new_prefix» .entry))) ⌝ }
+    ensures written { λ r. ⌜ now (dest .exit) ≡ over (keptBytes (now (entry .entry)) (now (prefix .entry)) (now («new_prefix» .entry))) (now (dest .entry)) ⌝ }
+{
+    if !begins_with(entry, prefix) {
+        return 0;
+    }
+    put_kept(entry, prefix, new_prefix, dest);
+    ENTRY_SIZE
+}
+
+// Writes the translated bucket, whose entries are so many, to the head of dest. Each entry is written to what the ones
+// before it left of dest.
+pub fn put_entries(bucket: &[u8], prefix: &[u8], new_prefix: &[u8], kept: usize, dest: &mut [u8])
+    requires { ⌜ (Good (now bucket) (now prefix) (now «new_prefix»)) × (all shortEntry (newBucket (now bucket) (now prefix) (now «new_prefix»)) ≡ true) × (kept ≡ length (newBucket (now bucket) (now prefix) (now «new_prefix»))) × (kept * entrySize ≤ length (now dest)) ⌝ }
+    ensures { λ _. ⌜ now (dest .exit) ≡ over (encodeBucket (newBucket (now (bucket .entry)) (now (prefix .entry)) (now («new_prefix» .entry)))) (now (dest .entry)) ⌝ }
+{
+    let end = kept * ENTRY_SIZE;
+    let mut at = 0;
+    let mut i = 0;
+    while at < end {
+        at += put_entry(entry_at(bucket, i), prefix, new_prefix, &mut dest[at..]);
+        i += 1;
+    }
+}
