@@ -3,3 +3,5 @@ pub mod Counts
 pub mod Checking
 pub mod OneEntry
 pub mod Measuring
+pub mod Writing
+pub mod Appending

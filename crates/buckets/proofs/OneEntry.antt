@@ -1,7 +1,7 @@
 -- What one entry leaves in a renamed bucket: its translation where its key begins with the prefix, else nothing.
 use mathlib.Core.Path.{_≡_, refl, sym, _∙_}
 use mathlib.Core.Bool.{Bool, true, false, cond, not}
-use mathlib.Core.List.{List, [], _∷_}
+use mathlib.Core.List.{List, [], _∷_, append-nil}
 use Prim.Native.Nat.{ℕ, _+_, _-_, _≤_, _<_}
 use native.Mathlib.Omega.{arith}
 use borrow.Author.Tests.{not-true, not-false, le-leb, lt-leb}
@@ -11,12 +11,14 @@ use mir.Val.{Fits}
 use Rattle.model.specs.declared.Refusal.the-variants.{TooLong}
 use Rattle.model.specs.declared.Answer.the-variants.{Value, Refused}
 use Rattle.model.specs.keys.Key.{Key, maxLen, IsPrefix, changePrefix}
+use Rattle.model.specs.records.Record.{joined}
 use Rattle.model.specs.tables.Tables.{all}
-use Rattle.model.specs.buckets.Bucket.{entryOf, translateEntry, TranslateBucket}
-use Rattle.model.specs.calls.Refusals.{outcome, answer}
-use Rattle.model.proofs.keys.Key.{prefix-length, length-change}
-use Rattle.model.proofs.buckets.Entries.{entry-sized, sized}
-use Rattle.buckets.specs.Kept.{Checked, keptOf, longCauses}
+use Rattle.model.specs.buckets.Bucket.{entrySize, entryOf, encodeEntry, encodeBucket, translateEntry, TranslateBucket}
+use Rattle.model.specs.calls.Refusals.{outcome, answer, over}
+use Rattle.model.specs.calls.BucketCalls.{shortEntry}
+use Rattle.model.proofs.keys.Key.{both, prefix-length, length-change}
+use Rattle.model.proofs.buckets.Entries.{sizedEntry, sized, entry-sized, length-entry}
+use Rattle.buckets.specs.Kept.{Checked, keptOf, keptBytes, longCauses}
 
 -- the key of a checked entry has at most 64 bytes
 pub key-short : (e : List ℕ) → Checked e → length (entryOf e .key) ≤ maxLen
@@ -33,7 +35,7 @@ module _ (e : List ℕ) (p q : Key) (t : Bool) (g : t ≡ IsPrefix p (entryOf e 
   none-counted h = rw (kept-is, not-true t h)
 
   module _ (h : not t ≡ false) where
-    begins : IsPrefix p (entryOf e .key) ≡ true
+    pub begins : IsPrefix p (entryOf e .key) ≡ true
     begins = sym g ∙ not-false t h
 
     -- with it, one entry
@@ -58,3 +60,35 @@ module _ (e : List ℕ) (p q : Key) (t : Bool) (g : t ≡ IsPrefix p (entryOf e 
       pub one-counted : length q + (length k - length p) ≤ 64 → Value 1 ≡ answer (longCauses (keptOf e p q)) (length (keptOf e p q))
       unfolding outcome all
       one-counted j = rw (one-is, le-leb (length (changePrefix p q (entryOf e .key))) maxLen (omega (arith, changed-length)))
+
+  -- ---- as bytes
+
+  pub none-long : not t ≡ true → 0 ≡ length (keptBytes e p q)
+  unfolding encodeBucket joined
+  none-long h = rw (kept-is, not-true t h)
+
+  pub none-written : (d : List ℕ) → not t ≡ true → d ≡ over (keptBytes e p q) d
+  unfolding encodeBucket joined over
+  none-written d h = rw (kept-is, not-true t h)
+
+  module _ (h : not t ≡ false) (s : all shortEntry (keptOf e p q) ≡ true) where
+    pub one-short : shortEntry (translateEntry p q (entryOf e)) ≡ true
+    unfolding all
+    one-short = both (shortEntry (translateEntry p q (entryOf e))) true (rw (one-is h) at s) .0
+
+    one-bytes : keptBytes e p q ≡ encodeEntry (translateEntry p q (entryOf e))
+    unfolding encodeBucket joined
+    one-bytes = rw (one-is h) (append-nil (encodeEntry (translateEntry p q (entryOf e))))
+
+    module _ (w : Checked e) where
+      pub one-long : entrySize ≡ length (keptBytes e p q)
+      one-long =
+          let n = sized (entryOf e) (entry-sized e (w .size) (w .reads)) .1 in
+          let z : sizedEntry (translateEntry p q (entryOf e)) ≡ true = rw (one-short, n) in
+          rw one-bytes (sym (length-entry (translateEntry p q (entryOf e)) z))
+
+      pub one-room : (d : List ℕ) → length (keptBytes e p q) ≤ length d → entrySize ≤ length d
+      one-room d r = omega (arith, one-long)
+
+    pub one-written : (d v : List ℕ) → v ≡ over (encodeEntry (translateEntry p q (entryOf e))) d → v ≡ over (keptBytes e p q) d
+    one-written d v r = rw one-bytes r

@@ -6,37 +6,37 @@ use model::ENTRY_SIZE;
 use model::RECORD_SIZE;
 ghost use mathlib.Core.Path.{_≡_};
 ghost use mathlib.Core.Bool.{true};
-ghost use mathlib.Core.List.{_++_};
-ghost use Prim.Native.Nat.{_+_, _*_, _≤_};
+ghost use mathlib.Core.List.{[], _++_};
+ghost use mathlib.Core.Option.{none};
+ghost use Prim.Native.Nat.{_+_, _≤_};
 ghost use lib.ListN.{length};
 ghost use Rattle.model.specs.keys.Key.{IsPrefix, maxLen};
-ghost use Rattle.model.specs.records.Record.{recordSize, zeros, recordOf};
+ghost use Rattle.model.specs.records.Record.{recordSize, recordOf};
 ghost use Rattle.model.specs.tables.Tables.{all};
 ghost use Rattle.model.specs.buckets.Bucket.{entrySize, entryOf, encodeEntry, encodeBucket, translateEntry};
-ghost use Rattle.model.specs.calls.Refusals.{over};
-ghost use Rattle.model.specs.calls.BucketCalls.{shortEntry, newBucket};
-ghost use Rattle.buckets.specs.Kept.{Checked, Good, keptOf, keptBytes};
+ghost use Rattle.model.specs.calls.Refusals.{first, over};
+ghost use Rattle.model.specs.calls.BucketCalls.{shortEntry, newBucket, translateBucketCauses};
+ghost use Rattle.buckets.specs.Kept.{Checked, keptOf, keptBytes};
 
-// Writes a record's worth of zeros to the head of dest.
-fn clear(dest: &mut [u8])
-    requires { ⌜ recordSize ≤ length (now dest) ⌝ }
-    ensures { λ _. ⌜ now (dest .exit) ≡ over (zeros recordSize) (now (dest .entry)) ⌝ }
+// Writes a record with this length, and zeros for a key, to the head of dest.
+fn put_blank(n: u8, dest: &mut [u8])
+    requires { ⌜ (n ≤ maxLen) × (recordSize ≤ length (now dest)) ⌝ }
+    ensures { λ _. ⌜ now (dest .exit) ≡ over (recordOf n []) (now (dest .entry)) ⌝ }
 {
     let mut i = 0;
     while i < RECORD_SIZE {
         dest[i] = 0;
         i += 1;
     }
+    dest[1] = n;
 }
 
-// Writes the record of a key in two parts to the head of dest.
+// Writes the record of a key, that is one part and then another, to the head of dest.
 fn put_key(first: &[u8], rest: &[u8], dest: &mut [u8])
     requires { ⌜ (length (now first) + length (now rest) ≤ maxLen) × (recordSize ≤ length (now dest)) ⌝ }
     ensures { λ _. ⌜ now (dest .exit) ≡ over (recordOf (length (now (first .entry) ++ now (rest .entry))) (now (first .entry) ++ now (rest .entry))) (now (dest .entry)) ⌝ }
 {
-    let n = (first.len() + rest.len()) as u8;
-    clear(dest);
-    dest[1] = n;
+    put_blank((first.len() + rest.len()) as u8, dest);
     records::join(first, rest, &mut dest[2..]);
 }
 
@@ -68,7 +68,7 @@ fn put_entry(entry: &[u8], prefix: &[u8], new_prefix: &[u8], dest: &mut [u8]) ->
 // Writes the translated bucket, whose entries are so many, to the head of dest. Each entry is written to what the ones
 // before it left of dest.
 pub fn put_entries(bucket: &[u8], prefix: &[u8], new_prefix: &[u8], kept: usize, dest: &mut [u8])
-    requires { ⌜ (Good (now bucket) (now prefix) (now «new_prefix»)) × (all shortEntry (newBucket (now bucket) (now prefix) (now «new_prefix»)) ≡ true) × (kept ≡ length (newBucket (now bucket) (now prefix) (now «new_prefix»))) × (kept * entrySize ≤ length (now dest)) ⌝ }
+    requires { ⌜ (first (translateBucketCauses (now bucket) (now prefix) (now «new_prefix») (now dest)) ≡ none) × (kept ≡ length (newBucket (now bucket) (now prefix) (now «new_prefix»))) ⌝ }
     ensures { λ _. ⌜ now (dest .exit) ≡ over (encodeBucket (newBucket (now (bucket .entry)) (now (prefix .entry)) (now («new_prefix» .entry)))) (now (dest .entry)) ⌝ }
 {
     let end = kept * ENTRY_SIZE;
