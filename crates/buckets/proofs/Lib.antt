@@ -5,3 +5,4 @@ pub mod OneEntry
 pub mod Measuring
 pub mod Writing
 pub mod Appending
+pub mod Renaming

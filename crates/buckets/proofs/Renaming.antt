@@ -1,0 +1,111 @@
+-- The causes of a renaming by what its steps answer: the check, the measure, and the room.
+use mathlib.Core.Path.{_≡_, refl, sym, ap, _∙_}
+use mathlib.Core.Bool.{Bool, true, false, not, _||_}
+use mathlib.Core.List.{List, [], _∷_, _++_}
+use mathlib.Core.Option.{none, some}
+use Prim.Native.Nat.{ℕ, _*_, _/_, _≤_, _<_}
+use native.Mathlib.Omega.{arith}
+use borrow.Author.Tests.{lt-ltb, le-ltb}
+use lib.ListN.{length}
+use Rattle.model.specs.declared.Refusal.{Refusal}
+use Rattle.model.specs.declared.Refusal.the-variants.{TooLong, NoRoom}
+use Rattle.model.specs.declared.Answer.{Answer}
+use Rattle.model.specs.declared.Answer.the-variants.{Value, Refused}
+use Rattle.model.specs.declared.Decided.{Decided}
+use Rattle.model.specs.declared.Decided.the-variants.{Yes, No}
+use Rattle.model.specs.declared.Decided.the-variants as decided
+use Rattle.model.specs.keys.Key.{Key, tooLong}
+use Rattle.model.specs.buckets.Bucket.{entrySize, entries, encodeBucket}
+use Rattle.model.specs.calls.Refusals.{Cause, _⇒_, outcome, first, answer, yesOrNo, over}
+use Rattle.model.specs.calls.BucketCalls.{bucketCauses, newBucket, neededBytes, bucketLong, bucketFull, renameCauses, translateBucketCauses, translateBucketAnswer, translateBucketLeaves, willFitAnswer}
+use Rattle.model.proofs.calls.Refusals.{here, later, after, accepted, value-is, refused, refused-by, refused-first, passed, none-here}
+use Rattle.model.proofs.calls.BucketCalls.{bucket-count, bucket-whole}
+use Rattle.buckets.specs.Kept.{Good, longCauses}
+
+-- the room that the code asks for is what is needed
+needed-is : (l : List ℕ) (p q : Key) (n : ℕ) → Good l p q → n ≡ length l → n ≡ neededBytes l p q
+unfolding neededBytes
+needed-is l p q n h e = omega (arith, bucket-count _ l h, bucket-whole _ l h)
+
+-- ---- the check
+
+module _ (l : List ℕ) (p q : Key) (t : Bool) (a : Answer) (e : t ≡ (tooLong p || tooLong q)) (f : a ≡ answer (bucketCauses t l) (length l / entrySize)) where
+  checked : a ≡ answer (renameCauses l p q) (length l / entrySize)
+  checked = rw e at f
+
+  -- it passes
+  pub check-good : (n : ℕ) → a ≡ Value n → Good l p q
+  check-good n h = accepted (renameCauses l p q) (length l / entrySize) a checked n h
+
+  -- or its refusal is handed on, with or without more causes after it
+  module _ {A : Type 0} (o : Refusal → A) (v x : A) (r : Refusal) (h : a ≡ Refused r) (g : x ≡ o r) where
+    pub check-refused : x ≡ outcome o (renameCauses l p q) v
+    check-refused = refused-by o v x (renameCauses l p q) r (refused (renameCauses l p q) _ a checked r h) g
+
+    pub check-refused-first : (d : List ℕ) → x ≡ outcome o (translateBucketCauses l p q d) v
+    check-refused-first d = refused-first o v x (renameCauses l p q) _ r (refused (renameCauses l p q) _ a checked r h) g
+
+-- ---- the measure
+
+module _ (l : List ℕ) (p q : Key) (b : Answer) (h : Good l p q) (f : b ≡ answer (longCauses (newBucket l p q)) (length (newBucket l p q))) where
+  -- its refusal is handed on
+  pub measure-handed : {A : Type 0} (o : Refusal → A) (v x : A) (d : List ℕ) (r : Refusal) → b ≡ Refused r → x ≡ o r → x ≡ outcome o (translateBucketCauses l p q d) v
+  measure-handed o v x d r k g =
+      after o v x (renameCauses l p q) _ h
+      (refused-first o v x (longCauses (newBucket l p q)) ((bucketFull l p q (length d) ⇒ NoRoom) ∷ []) r (refused (longCauses (newBucket l p q)) _ b f r k) g)
+
+  module _ (kept : ℕ) (k : b ≡ Value kept) where
+    not-long : bucketLong l p q ≡ false
+    not-long = none-here (bucketLong l p q) TooLong [] (accepted (longCauses (newBucket l p q)) _ b f kept k)
+
+    -- its count is that of the entries kept
+    pub count-is : kept ≡ length (newBucket l p q)
+    count-is = value-is (longCauses (newBucket l p q)) _ b f kept k
+
+    module _ (n : ℕ) (c : n ≡ length l) where
+      -- too little room makes the outcome
+      pub room-refused : {A : Type 0} (o : Refusal → A) (v x : A) (d : List ℕ) → length d < n → x ≡ o NoRoom → x ≡ outcome o (translateBucketCauses l p q d) v
+      room-refused o v x d j g =
+          after o v x (renameCauses l p q) _ h
+          (later o v x (bucketLong l p q) TooLong _ not-long
+          (here o v x (bucketFull l p q (length d)) NoRoom [] (lt-ltb (length d) (neededBytes l p q) (rw (← needed-is l p q n h c) j)) g))
+
+      module _ (d : List ℕ) (j : n ≤ length d) where
+        -- with enough of it no cause applies
+        pub no-cause : first (translateBucketCauses l p q d) ≡ none
+        no-cause =
+            sym (after some none none (renameCauses l p q) _ h
+            (later some none none (bucketLong l p q) TooLong _ not-long
+            (later some none none (bucketFull l p q (length d)) NoRoom [] (le-ltb (length d) (neededBytes l p q) (rw (← needed-is l p q n h c) j)) (unfold outcome in refl))))
+
+        -- the count is answered
+        pub count-answered : Value kept ≡ translateBucketAnswer l p q d
+        count-answered = passed Refused _ (Value kept) (translateBucketCauses l p q d) no-cause (ap Value count-is)
+
+        -- and the entries kept are left
+        pub entries-left : (v : List ℕ) → v ≡ over (encodeBucket (newBucket l p q)) d → v ≡ translateBucketLeaves l p q d
+        entries-left v g = passed (λ (_ : Refusal). d) _ v (translateBucketCauses l p q d) no-cause g
+
+-- ---- will it fit
+
+module _ (l : List ℕ) (p q : Key) (b : Answer) (h : Good l p q) (f : b ≡ answer (longCauses (newBucket l p q)) (length (newBucket l p q))) (m : ℕ) where
+  -- not where a kept entry is too long
+  pub long-no : (r : Refusal) → b ≡ Refused r → No ≡ yesOrNo (not (bucketLong l p q || bucketFull l p q m))
+  unfolding outcome
+  long-no r k = go (bucketLong l p q) refl
+    where
+      go : (t : Bool) → bucketLong l p q ≡ t → No ≡ yesOrNo (not (t || bucketFull l p q m))
+      go true e = refl
+      go false e = let z = rw e at f in let x : _≡_ {A = ℕ} 0 1 = cc in absurd (omega arith)
+
+  module _ (kept : ℕ) (k : b ≡ Value kept) (n : ℕ) (c : n ≡ length l) where
+    -- nor where there is too little room
+    pub room-no : m < n → No ≡ yesOrNo (not (bucketLong l p q || bucketFull l p q m))
+    room-no j = rw (not-long l p q b h f kept k, lt-ltb m (neededBytes l p q) (rw (← needed-is l p q n h c) j))
+
+    pub fits-yes : n ≤ m → Yes ≡ yesOrNo (not (bucketLong l p q || bucketFull l p q m))
+    fits-yes j = rw (not-long l p q b h f kept k, le-ltb m (neededBytes l p q) (rw (← needed-is l p q n h c) j))
+
+-- what is said of a good bucket is the answer
+pub will-decided : (l : List ℕ) (p q : Key) (m : ℕ) (x : Decided) → Good l p q → x ≡ yesOrNo (not (bucketLong l p q || bucketFull l p q m)) → x ≡ willFitAnswer l p q m
+will-decided l p q m x h e = passed decided.Refused _ x (renameCauses l p q) h e

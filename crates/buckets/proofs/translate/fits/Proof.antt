@@ -1,0 +1,33 @@
+-- `buckets::fits` meets its contract.
+use Rattle.buckets.proofs.Renaming.{long-no, room-no, fits-yes}
+use borrow.Author.Needs.{needs}
+use Rattle.buckets.proofs.translate.fits.Statement.{statement}
+use Rattle.buckets.proofs.translate.fits.Tie as tie
+
+ruleset rules = (needs, long-no, room-no, fits-yes)
+
+measure-requires : tie.Need-measure-requires
+measure-requires c κs = search rules
+
+enum-told : tie.Need-enum-told
+enum-told c = search rules
+
+enum-told-2 : tie.Need-enum-told-2
+enum-told-2 c = search rules
+
+returns : tie.Need-returns
+returns c = search rules
+
+needed-requires : tie.Need-needed-requires
+needed-requires c κs = search rules
+
+returns-2 : tie.Need-returns-2
+returns-2 c = search rules
+
+returns-3 : tie.Need-returns-3
+returns-3 c = search rules
+
+pub fits-spec : {M : Type 1} → statement M
+fits-spec =
+    tie.close
+    (tie.spec measure-requires enum-told enum-told-2 returns needed-requires returns-2 returns-3)
