@@ -1,5 +1,6 @@
 // The boundary for C and Rust. Each function answers what the call below it does: 0 or the refusal's number,
 // and the value through its last parameter, which a refusal leaves as it was. No public function has a `requires`.
+mod of_buckets;
 mod of_cuts;
 mod of_keys;
 mod of_list;
@@ -9,6 +10,8 @@ mod of_renaming;
 mod of_tables;
 mod tell;
 
+pub use of_buckets::jd_translate_bucket;
+pub use of_buckets::jd_translate_bucket_will_fit;
 pub use of_cuts::jd_split_left;
 pub use of_cuts::jd_split_right;
 pub use of_cuts::jd_translate_key;
