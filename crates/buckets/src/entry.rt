@@ -10,7 +10,7 @@ ghost use Rattle.model.specs.buckets.Bucket.{entryOf};
 ghost use Rattle.buckets.specs.Kept.{entryAt};
 
 // The entry at a place, as a part of the bucket; an empty part where there are fewer.
-pub fn entry_at(bucket: &[u8], i: usize) -> &[u8]
+pub(crate) fn entry_at(bucket: &[u8], i: usize) -> &[u8]
     ensures { λ r. ⌜ now r ≡ entryAt (now (bucket .entry)) i ⌝ }
 {
     if bucket.len() / ENTRY_SIZE <= i {
@@ -22,7 +22,7 @@ pub fn entry_at(bucket: &[u8], i: usize) -> &[u8]
 }
 
 // The part of an entry that its key fills.
-pub fn key_of(entry: &[u8]) -> &[u8]
+pub(crate) fn key_of(entry: &[u8]) -> &[u8]
     requires { ⌜ recordSize ≤ length (now entry) ⌝ }
     ensures { λ r. ⌜ now r ≡ entryOf (now (entry .entry)) .key ⌝ }
 {
@@ -30,7 +30,7 @@ pub fn key_of(entry: &[u8]) -> &[u8]
 }
 
 // Whether an entry's key begins with the prefix.
-pub fn begins_with(entry: &[u8], prefix: &[u8]) -> bool
+pub(crate) fn begins_with(entry: &[u8], prefix: &[u8]) -> bool
     requires { ⌜ recordSize ≤ length (now entry) ⌝ }
     ensures { λ r. ⌜ r ≡ IsPrefix (now (prefix .entry)) (entryOf (now (entry .entry)) .key) ⌝ }
 {

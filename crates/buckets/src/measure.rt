@@ -28,7 +28,7 @@ fn measure_entry(entry: &[u8], prefix: &[u8], new_prefix: &[u8]) -> Answer
 }
 
 // Cause 8 of the entries that are kept; else their count.
-pub fn measure(bucket: &[u8], prefix: &[u8], new_prefix: &[u8]) -> Answer
+pub(crate) fn measure(bucket: &[u8], prefix: &[u8], new_prefix: &[u8]) -> Answer
     requires { ⌜ Good (now bucket) (now prefix) (now «new_prefix») ⌝ }
     ensures { λ r. ⌜ r ≡ answer (longCauses (newBucket (now (bucket .entry)) (now (prefix .entry)) (now («new_prefix» .entry)))) (length (newBucket (now (bucket .entry)) (now (prefix .entry)) (now («new_prefix» .entry)))) ⌝ }
 {
@@ -47,7 +47,7 @@ pub fn measure(bucket: &[u8], prefix: &[u8], new_prefix: &[u8]) -> Answer
 }
 
 // The bytes that the destination must hold: as many entries as the bucket.
-pub fn needed(bucket: &[u8]) -> usize
+pub(crate) fn needed(bucket: &[u8]) -> usize
     ensures { λ r. ⌜ r ≡ length (now (bucket .entry)) ⌝ }
 {
     bucket.len()

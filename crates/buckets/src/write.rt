@@ -67,7 +67,13 @@ fn put_entry(entry: &[u8], prefix: &[u8], new_prefix: &[u8], dest: &mut [u8]) ->
 
 // Writes the translated bucket, whose entries are so many, to the head of dest. Each entry is written to what the ones
 // before it left of dest.
-pub fn put_entries(bucket: &[u8], prefix: &[u8], new_prefix: &[u8], kept: usize, dest: &mut [u8])
+pub(crate) fn put_entries(
+    bucket: &[u8],
+    prefix: &[u8],
+    new_prefix: &[u8],
+    kept: usize,
+    dest: &mut [u8],
+)
     requires { ⌜ (first (translateBucketCauses (now bucket) (now prefix) (now «new_prefix») (now dest)) ≡ none) × (kept ≡ length (newBucket (now bucket) (now prefix) (now «new_prefix»))) ⌝ }
     ensures { λ _. ⌜ now (dest .exit) ≡ over (encodeBucket (newBucket (now (bucket .entry)) (now (prefix .entry)) (now («new_prefix» .entry)))) (now (dest .entry)) ⌝ }
 {
