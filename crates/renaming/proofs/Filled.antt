@@ -1,17 +1,14 @@
 -- The filled edges of a table that has none of the causes 1 to 4, by their records: each made in its slot, and all written in turn.
 use mathlib.Core.Path.{_≡_, refl, sym, ap, _∙_}
 use mathlib.Core.Bool.{Bool, true, false, cond}
-use mathlib.Core.List.{List, []}
+use mathlib.Core.List.{List, [], _++_, append-nil}
 use mathlib.Core.Option.{none}
 use Prim.Native.Nat.{ℕ, _+_, _*_, _-_, _/_, _≤_, _<_}
 use native.Mathlib.Omega.{arith}
-use mir.Syntax.{w16}
-use mir.Val.{Fits}
 use borrow.Author.Tests.{leb-true, lt-ltb, le-ltb}
 use borrow.Rule.Slice.PartMut.{putMid}
 use lib.Dec.{eqb}
 use lib.ListN.{length, take, drop}
-use lib.Seq.{length-take-le}
 use Rattle.model.specs.declared.Refusal.{Refusal}
 use Rattle.model.specs.declared.Refusal.the-variants.{NoRoom}
 use Rattle.model.specs.keys.Key.{maxLen}
@@ -19,14 +16,13 @@ use Rattle.model.specs.keys.Order.{key}
 use Rattle.model.specs.records.Record.{edge, noEdge, recordSize, noEdgeMark, lengthField, keyBytes, element, edgeOf, elements, edges}
 use Rattle.model.specs.records.Record.{recordOf, encodeEdge, encodeEdges}
 use Rattle.model.specs.inner.Places.{recordAt}
-use Rattle.model.specs.inner.Written.{clipped, into}
 use Rattle.model.specs.ranges.RangePrefix.{PivotLcp}
 use Rattle.model.specs.tables.Tables.{edgeAt, all, shortEdge}
 use Rattle.model.specs.translation.Renaming.{filled}
 use Rattle.model.specs.calls.Refusals.{first, over, outcome}
 use Rattle.model.specs.calls.TableCalls.{tableCauses}
 use Rattle.model.specs.calls.RenamingCalls.{newEdges, edgesCauses}
-use Rattle.model.proofs.Lists.{clipped-all, all-at}
+use Rattle.model.proofs.Lists.{all-at}
 use Rattle.model.proofs.calls.Refusals.{here, later, done, after}
 use Rattle.model.proofs.keys.Key.{prefix-is-take}
 use Rattle.model.proofs.ranges.RangePrefix.{prefix-of-left}
@@ -76,12 +72,13 @@ module _ (p e : List ℕ) (h : first (tableCauses false false p e) ≡ none) whe
         prefix-short : length (take n x) ≤ maxLen
         prefix-short = leb-true (length (take n x)) maxLen (rw prefix-is at short-here)
 
-        pub prefix-fits : n ≤ length x → Fits w16 n
-        prefix-fits q = record { fits = omega (arith, prefix-short, length-take-le n x q) }
+        pub prefix-room : n ≤ length x → length (take n x) + length (take 0 x) ≤ 64
+        prefix-room q = omega (arith, prefix-short)
 
-        pub prefix-made : (r : List ℕ) → n ≤ length x → r ≡ recordOf n (clipped (take n x)) → r ≡ encodeEdge (edgeAt (newEdges p e) i)
+        pub prefix-made : (d w : List ℕ) → w ≡ over (recordOf (length (take n x ++ take 0 x)) (take n x ++ take 0 x)) d
+            → w ≡ over (encodeEdge (edgeAt (newEdges p e) i)) d
         unfolding encodeEdge
-        prefix-made r q w = w ∙ rw (prefix-is, length-take-le n x q, clipped-all (take n x) prefix-short)
+        prefix-made d w f = f ∙ rw (prefix-is, append-nil)
 
       -- where there is one, it is made again
       module _ (u : t ≡ false) (k : List ℕ) (o : k ≡ keyBytes a) where
@@ -92,12 +89,12 @@ module _ (p e : List ℕ) (h : first (tableCauses false false p e) ≡ none) whe
         kept-short : length k ≤ maxLen
         kept-short = leb-true (length k) maxLen (rw kept-is at short-here)
 
-        pub kept-fits : Fits w16 (length k)
-        kept-fits = record { fits = omega (arith, kept-short) }
+        pub kept-room : length k + length (take 0 k) ≤ 64
+        kept-room = omega (arith, kept-short)
 
-        pub kept-made : (r : List ℕ) → r ≡ recordOf (length k) (clipped k) → r ≡ encodeEdge (edgeAt (newEdges p e) i)
+        pub kept-made : (d w : List ℕ) → w ≡ over (recordOf (length (k ++ take 0 k)) (k ++ take 0 k)) d → w ≡ over (encodeEdge (edgeAt (newEdges p e) i)) d
         unfolding encodeEdge
-        kept-made r w = w ∙ rw (kept-is, clipped-all k kept-short)
+        kept-made d w f = f ∙ rw (kept-is, append-nil)
 
   -- ---- all records
 
@@ -105,14 +102,12 @@ module _ (p e : List ℕ) (h : first (tableCauses false false p e) ≡ none) whe
   unfolding encodeEdges
   edges-start d = turn-start encodeEdge (newEdges p e) d
 
-  pub edges-next : (i : ℕ) (d v m w : List ℕ) → i < length e / 66 → length e ≤ length d
-      → v ≡ over (encodeEdges (take i (newEdges p e))) d → m ≡ encodeEdge (edgeAt (newEdges p e) i)
-      → w ≡ into m (take (length v - i * 66) (drop (i * 66) v))
+  pub edges-next : (i : ℕ) (d v w : List ℕ) → i < length e / 66 → v ≡ over (encodeEdges (take i (newEdges p e))) d
+      → w ≡ over (encodeEdge (edgeAt (newEdges p e) i)) (take (length v - i * 66) (drop (i * 66) v))
       → putMid (i * 66) (length v - i * 66) v w ≡ over (encodeEdges (take (i + 1) (newEdges p e))) d
   unfolding encodeEdges
-  edges-next i d v m w l r f g q =
-      turn-next encodeEdge (newEdges p e) recordSize shortEdge length-encodeEdge new-short i (omega (arith, new-count)) noEdge d v w (omega arith) f
-      (q ∙ rw g)
+  edges-next i d v w l f g =
+      turn-next encodeEdge (newEdges p e) recordSize shortEdge length-encodeEdge new-short i (omega (arith, new-count)) noEdge d v w f g
 
   pub edges-end : (i : ℕ) (d v : List ℕ) → length e / 66 ≤ i → v ≡ over (encodeEdges (take i (newEdges p e))) d → v ≡ over (encodeEdges (newEdges p e)) d
   unfolding encodeEdges

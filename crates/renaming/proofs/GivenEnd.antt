@@ -23,7 +23,7 @@ use Rattle.model.specs.calls.Refusals.{outcome, answer, over}
 use Rattle.model.specs.calls.KeyCalls.{notRecord, notElement}
 use Rattle.model.specs.calls.TableCalls.{pivotCauses}
 use Rattle.model.specs.calls.RenamingCalls.{butLast, newPivots, lastTranslated, pivotsCauses}
-use Rattle.model.proofs.Lists.{rest, clipped-all, all-append}
+use Rattle.model.proofs.Lists.{rest, into-over, clipped-all, all-append}
 use Rattle.model.proofs.keys.Key.{bytes-of}
 use Rattle.model.proofs.records.Record.{length-encode, short-element, encode-element}
 use Rattle.model.proofs.records.Records.{joined-append, length-encodeAll}
@@ -127,15 +127,18 @@ module _ (v p q n : List ℕ) (h : Given v p q n) where
     changed-size : length (encodeAll (changedPivots v p q)) ≡ length v - 66
     changed-size = omega (arith, length-encodeAll (changedPivots v p q) (changed-short v p q c), changed-count v p q c, pivots-size)
 
-    pub end-written : (d u w : List ℕ) (f : ℕ) → ((i : ℕ) → Fits w8 (getD n i 0)) → length v ≤ length d
+    pub end-written : (d u w : List ℕ) (f : ℕ) → ((i : ℕ) → Fits w8 (getD n i 0)) → length v ≤ length d → length u ≡ length d
         → u ≡ over (encodeAll (changedPivots v p q)) d → f ≡ lengthField n
         → w ≡ into (recordOf f (clipped (take (length n - 2) (drop 2 n)))) (take (length u - (length v - 66)) (drop (length v - 66) u))
         → putMid (length v - 66) (length u - (length v - 66)) u w ≡ over (encodeAll (newPivots v p q n)) d
-    end-written d u w f b l e g o =
+    end-written d u w f b l s e g o =
         let x : recordOf f (clipped (take (length n - 2) (drop 2 n))) ≡ encode (element n) = rw g (end-record (bytes-of n b)) in
         let k = length-encode (element n) (short-element n end-element) in
+        let room : length (encode (element n)) ≤ length (take (length u - (length v - 66)) (drop (length v - 66) u)) =
+        rw (rest u (length v - 66), length-drop (length v - 66) u) (omega (arith, k, given-size))
+        in
         rw all-records
-        (over-on (length v - 66) (encodeAll (changedPivots v p q)) (encode (element n)) d u w changed-size (omega (arith, k, given-size)) e (o ∙ rw x))
+        (over-on (length v - 66) (encodeAll (changedPivots v p q)) (encode (element n)) d u w changed-size e (o ∙ rw x (into-over _ _ room)))
 
   -- ---- what is answered
 

@@ -1,6 +1,6 @@
 pub mod Filling
 pub mod Filled
-pub mod ChangedKeys
+pub mod JoinedKeys
 pub mod KeyPass
 pub mod NewPivots
 pub mod GivenEnd

@@ -1,32 +1,43 @@
 -- The new pivots of a table that has none of the causes 1 to 3, 7 and 8, by their records: each key made at its place, all written in turn, and the end after them.
 use mathlib.Core.Path.{_≡_, _∙_}
 use mathlib.Core.Bool.{Bool, true}
-use mathlib.Core.List.{List, []}
-use Prim.Native.Nat.{ℕ, _+_, _*_, _-_, _/_, _≤_, _<_}
+use mathlib.Core.List.{List, [], _∷_, _++_, append-nil}
+use Prim.Native.Nat.{ℕ, zero, suc, _+_, _*_, _-_, _/_, _≤_, _<_}
 use native.Mathlib.Omega.{arith}
 use borrow.Author.Tests.{leb-true, not-false}
 use borrow.Rule.Slice.PartMut.{putMid}
-use lib.ListN.{length, take, drop, getD, length-map}
+use lib.ListN.{length, take, drop, getD, length-map, length-drop, drop-of-length-le}
 use Rattle.model.specs.declared.Refusal.the-variants.{NotPrefix, TooLong}
 use Rattle.model.specs.keys.Key.{changePrefix}
 use Rattle.model.specs.keys.Order.{key, max, lt}
-use Rattle.model.specs.records.Record.{recordSize, keyBytes, element, elements, encode, encodeAll}
+use Rattle.model.specs.records.Record.{recordSize, keyBytes, element, elements, recordOf, encode, encodeAll}
 use Rattle.model.specs.inner.Places.{recordAt}
-use Rattle.model.specs.inner.Written.{into}
 use Rattle.model.specs.tables.Tables.{pivotAt, all, shortElement}
 use Rattle.model.specs.translation.Renaming.{TranslateElement}
 use Rattle.model.specs.calls.Refusals.{over}
 use Rattle.model.specs.calls.RenamingCalls.{butLast, begun, lastTranslated}
-use Rattle.model.proofs.Lists.{getD-map}
-use Rattle.model.proofs.keys.Key.{prefix-length, length-change}
+use Rattle.model.proofs.Lists.{rest, getD-map}
+use Rattle.model.proofs.keys.Key.{both, prefix-length, length-change}
 use Rattle.model.proofs.records.Record.{length-encode, element-encode}
-use Rattle.model.proofs.records.InTurn.{all-inside, turn-start, turn-next, turn-end}
+use Rattle.model.proofs.records.InTurn.{turn-start, turn-next, turn-end}
 use Rattle.model.proofs.tables.Routing.{wf-count}
 use Rattle.model.proofs.calls.Refusals.{none-here, none-later}
 use Rattle.model.proofs.calls.TableCalls.{length-elements}
 use Rattle.model.proofs.calls.PivotKeys.{key-at}
 use Rattle.renaming.specs.Change.{changedPivots, Changeable}
 use Rattle.renaming.proofs.KeyPass.{but-count, but-at}
+
+-- what is written over as many bytes is all that is left
+over-all : (w d : List ℕ) → length d ≤ length w → over w d ≡ w
+unfolding over
+over-all w d h = rw (drop-of-length-le d h) (append-nil w)
+
+-- each place inside a list that passes a test passes it
+all-inside : {A : Type 0} (test : A → Bool) (xs : List A) (i : ℕ) (d : A) → i < length xs → all test xs ≡ true → test (getD xs i d) ≡ true
+unfolding all
+all-inside test [] i d m h = absurd (omega arith)
+all-inside test (x ∷ xs) zero d m h = both (test x) (all test xs) h .0
+all-inside test (x ∷ xs) (suc i) d m h = all-inside test xs i d (omega arith) (both (test x) (all test xs) h .1)
 
 module _ (v p q : List ℕ) (c : Changeable v p q) where
   -- each pivot but the last begins with the prefix
@@ -69,11 +80,17 @@ module _ (v p q : List ℕ) (c : Changeable v p q) where
           let b = all-inside (begun p) (butLast (elements v)) i max (omega (arith, but-count v (c .wf))) all-begin in
           prefix-length p k (rw (g, f) (rw (but-at v (c .wf) i m) at b))
 
-      pub key-fits : length q + (length k - length p) ≤ 64
-      key-fits = rw (← length-change p q k) (leb-true (length (changePrefix p q k)) 64 (rw changed-is at short-here))
+      changed-room : length q + (length k - length p) ≤ 64
+      changed-room = rw (← length-change p q k) (leb-true (length (changePrefix p q k)) 64 (rw changed-is at short-here))
 
-      pub key-made : (r : List ℕ) → r ≡ encode (key (changePrefix p q k)) → r ≡ encode (TranslateElement p q (pivotAt (elements v) i))
-      key-made r e = rw changed-is e
+      pub key-room : length q + length (take (length k - length p) (drop (length p) k)) ≤ 64
+      key-room = rw (rest k (length p), length-drop (length p) k) changed-room
+
+      pub key-made : (d w : List ℕ)
+          → w ≡ over (recordOf (length (q ++ take (length k - length p) (drop (length p) k))) (q ++ take (length k - length p) (drop (length p) k))) d
+          → w ≡ over (encode (TranslateElement p q (pivotAt (elements v) i))) d
+      unfolding encode changePrefix
+      key-made d w e = e ∙ rw (changed-is, rest k (length p))
 
   -- ---- all records but the end's
 
@@ -81,14 +98,13 @@ module _ (v p q : List ℕ) (c : Changeable v p q) where
   unfolding encodeAll
   changed-start d = turn-start encode (changedPivots v p q) d
 
-  pub changed-next : (i : ℕ) (d u m w : List ℕ) → i < length v / 66 - 1 → length v ≤ length d
-      → u ≡ over (encodeAll (take i (changedPivots v p q))) d → m ≡ encode (TranslateElement p q (pivotAt (elements v) i))
-      → w ≡ into m (take (length u - i * 66) (drop (i * 66) u))
+  pub changed-next : (i : ℕ) (d u w : List ℕ) → i < length v / 66 - 1 → u ≡ over (encodeAll (take i (changedPivots v p q))) d
+      → w ≡ over (encode (TranslateElement p q (pivotAt (elements v) i))) (take (length u - i * 66) (drop (i * 66) u))
       → putMid (i * 66) (length u - i * 66) u w ≡ over (encodeAll (take (i + 1) (changedPivots v p q))) d
   unfolding encodeAll
-  changed-next i d u m w l r f g o =
-      turn-next encode (changedPivots v p q) recordSize shortElement length-encode changed-short i (omega (arith, changed-count)) max d u w (omega arith) f
-      (o ∙ rw (changed-at i (omega arith), g))
+  changed-next i d u w l f g =
+      turn-next encode (changedPivots v p q) recordSize shortElement length-encode changed-short i (omega (arith, changed-count)) max d u w f
+      (g ∙ rw (changed-at i (omega arith)))
 
   pub changed-end : (i : ℕ) (d u : List ℕ) → length v / 66 - 1 ≤ i → u ≡ over (encodeAll (take i (changedPivots v p q))) d
       → u ≡ over (encodeAll (changedPivots v p q)) d
@@ -100,8 +116,11 @@ module _ (v p q : List ℕ) (c : Changeable v p q) where
   pub last-slot : length v / 66 - 2 + 1 < length v / 66
   last-slot = omega (arith, two-pivots)
 
-  pub last-below : (r n : List ℕ) (t : Bool) → r ≡ encode (TranslateElement p q (pivotAt (elements v) (length v / 66 - 2)))
+  pub last-below : (r n d : List ℕ) (t : Bool) → r ≡ over (encode (TranslateElement p q (pivotAt (elements v) (length v / 66 - 2)))) d → length d ≡ 66
       → t ≡ lt (element r) (element n) → t ≡ lt (lastTranslated v p q) (element n)
-  last-below r n t e f =
+  last-below r n d t e m f =
+      let x = TranslateElement p q (pivotAt (elements v) (length v / 66 - 2)) in
+      let s = short-here (length v / 66 - 2) last-slot in
       let i : length (elements v) - 1 - 1 ≡ length v / 66 - 2 = omega (arith, length-elements v) in
-      f ∙ rw (e, element-encode (TranslateElement p q (pivotAt (elements v) (length v / 66 - 2))) (short-here (length v / 66 - 2) last-slot), i)
+      let o : over (encode x) d ≡ encode x = over-all (encode x) d (omega (arith, length-encode x s)) in
+      f ∙ rw (e, o, element-encode x s, i)

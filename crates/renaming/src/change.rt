@@ -1,15 +1,14 @@
 // The pivots but the last, with their prefix changed.
+use crate::record::put_joined;
 use model::Answer;
 use model::MAX_LEN;
 use model::RECORD_SIZE;
 use model::Refusal;
 ghost use mathlib.Core.Path.{_≡_};
 ghost use mathlib.Core.Bool.{true, _&&_};
-ghost use Prim.Native.Nat.{_+_, _-_, _/_, _≤_, _<_};
+ghost use Prim.Native.Nat.{_+_, _/_, _≤_, _<_};
 ghost use lib.Dec.{leb};
 ghost use lib.ListN.{length};
-ghost use Rattle.model.specs.keys.Key.{changePrefix};
-ghost use Rattle.model.specs.keys.Order.{key};
 ghost use Rattle.model.specs.records.Record.{recordSize, elements, encode, encodeAll};
 ghost use Rattle.model.specs.tables.Tables.{pivotAt, WFPivots};
 ghost use Rattle.model.specs.translation.Renaming.{TranslateElement};
@@ -50,33 +49,14 @@ pub(crate) fn check_keys(pivots: &[u8], prefix: &[u8], new_prefix: &[u8]) -> Ans
     Answer::Value(count)
 }
 
-// The record of a key whose prefix is changed.
-fn changed_record(k: &[u8], old: &[u8], new: &[u8]) -> [u8; 66]
-    requires { ⌜ (length (now old) ≤ length (now k)) × (length (now new) + (length (now k) - length (now old)) ≤ 64) ⌝ }
-    ensures { λ r. ⌜ r ≡ encode (key (changePrefix (now (old .entry)) (now (new .entry)) (now (k .entry)))) ⌝ }
+// The record of pivot i, not the last, with its prefix changed, at the head of dest.
+pub(crate) fn put_pivot(pivots: &[u8], prefix: &[u8], new_prefix: &[u8], i: usize, dest: &mut [u8])
+    requires { ⌜ (Changeable (now pivots) (now prefix) (now «new_prefix»)) × (i + 1 < length (now pivots) / recordSize) × (recordSize ≤ length (now dest)) ⌝ }
+    ensures { λ _. ⌜ now (dest .exit) ≡ over (encode (TranslateElement (now (prefix .entry)) (now («new_prefix» .entry)) (pivotAt (elements (now (pivots .entry))) i))) (now (dest .entry)) ⌝ }
 {
-    let from = old.len();
-    let rest = k.len() - from;
-    let at = 2 + new.len();
-    let mut made = records::record_of((new.len() + rest) as u16, new);
-    let mut i = 0;
-    while i < rest {
-        made[at + i] = k[from + i];
-        i += 1;
-    }
-    made
-}
-
-// The record of pivot i, not the last, with its prefix changed.
-pub(crate) fn pivot_record(pivots: &[u8], prefix: &[u8], new_prefix: &[u8], i: usize) -> [u8; 66]
-    requires { ⌜ (Changeable (now pivots) (now prefix) (now «new_prefix»)) × (i + 1 < length (now pivots) / recordSize) ⌝ }
-    ensures { λ r. ⌜ r ≡ encode (TranslateElement (now (prefix .entry)) (now («new_prefix» .entry)) (pivotAt (elements (now (pivots .entry))) i)) ⌝ }
-{
-    changed_record(
-        records::key_bytes(records::record_at(pivots, i)),
-        prefix,
-        new_prefix,
-    )
+    let k = records::key_bytes(records::record_at(pivots, i));
+    let from = prefix.len();
+    put_joined(new_prefix, &k[from..], dest);
 }
 
 // The records of all pivots but the last, in turn.
@@ -88,7 +68,7 @@ pub(crate) fn write_changed(pivots: &[u8], prefix: &[u8], new_prefix: &[u8], des
     let mut i = 0;
     while i < last {
         let at = i * RECORD_SIZE;
-        records::store(pivot_record(pivots, prefix, new_prefix, i), &mut dest[at..]);
+        put_pivot(pivots, prefix, new_prefix, i, &mut dest[at..]);
         i += 1;
     }
 }

@@ -1,4 +1,5 @@
 // The edges with each absent one filled.
+use crate::record::put_joined;
 use model::Answer;
 use model::RECORD_SIZE;
 use model::Refusal;
@@ -13,19 +14,20 @@ ghost use Rattle.model.specs.calls.Refusals.{first, over};
 ghost use Rattle.model.specs.calls.TableCalls.{tableCauses};
 ghost use Rattle.model.specs.calls.RenamingCalls.{newEdges, edgesAnswer, edgesLeaves};
 
-// The record of the edge of slot i or, where there is none, of the prefix of the slot's range.
-fn filled_record(pivots: &[u8], edges: &[u8], i: usize) -> [u8; 66]
-    requires { ⌜ (first (tableCauses false false (now pivots) (now edges)) ≡ none) × (i < length (now edges) / recordSize) ⌝ }
-    ensures { λ r. ⌜ r ≡ encodeEdge (edgeAt (newEdges (now (pivots .entry)) (now (edges .entry))) i) ⌝ }
+// The record of the edge of slot i or, where there is none, of the prefix of the slot's range, at the head of dest.
+fn put_filled(pivots: &[u8], edges: &[u8], i: usize, dest: &mut [u8])
+    requires { ⌜ (first (tableCauses false false (now pivots) (now edges)) ≡ none) × (i < length (now edges) / recordSize) × (recordSize ≤ length (now dest)) ⌝ }
+    ensures { λ _. ⌜ now (dest .exit) ≡ over (encodeEdge (edgeAt (newEdges (now (pivots .entry)) (now (edges .entry))) i)) (now (dest .entry)) ⌝ }
 {
     let old = records::record_at(edges, i);
     if records::is_no_edge(old) {
         let from = records::key_bytes(records::record_at(pivots, i));
         let n = range_prefix::range_prefix_len(from, records::record_at(pivots, i + 1));
-        return records::record_of(n as u16, &from[..n]);
+        put_joined(&from[..n], &from[..0], dest);
+        return;
     }
     let k = records::key_bytes(old);
-    records::record_of(k.len() as u16, k)
+    put_joined(k, &k[..0], dest);
 }
 
 // The records of the filled edges, slot by slot.
@@ -37,7 +39,7 @@ fn write_edges(pivots: &[u8], edges: &[u8], dest: &mut [u8])
     let mut i = 0;
     while i < slots {
         let at = i * RECORD_SIZE;
-        records::store(filled_record(pivots, edges, i), &mut dest[at..]);
+        put_filled(pivots, edges, i, &mut dest[at..]);
         i += 1;
     }
 }

@@ -2,6 +2,7 @@
 mod change;
 mod edges;
 mod pivots;
+mod record;
 
 pub use edges::translate_edges;
 pub use pivots::translate_pivots;

@@ -1,6 +1,6 @@
 // The pivots under another prefix, up to a given end.
 use crate::change::check_keys;
-use crate::change::pivot_record;
+use crate::change::put_pivot;
 use crate::change::write_changed;
 use model::Answer;
 use model::MAX_LEN;
@@ -37,7 +37,9 @@ fn ends_above(pivots: &[u8], prefix: &[u8], new_prefix: &[u8], end: &[u8]) -> bo
     ensures { λ r. ⌜ r ≡ lt (lastTranslated (now (pivots .entry)) (now (prefix .entry)) (now («new_prefix» .entry))) (element (now (end .entry))) ⌝ }
 {
     let last = pivots.len() / RECORD_SIZE - 2;
-    keys::is_below(&pivot_record(pivots, prefix, new_prefix, last), end)
+    let mut made = [0u8; 66];
+    put_pivot(pivots, prefix, new_prefix, last, &mut made);
+    keys::is_below(&made, end)
 }
 
 // The records of the new pivots, the end's as the last.

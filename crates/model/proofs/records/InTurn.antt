@@ -1,34 +1,25 @@
 -- Values written in turn, each in as many bytes, at the head of a destination: what is written so far grows by the next value at its place.
-use mathlib.Core.Path.{_≡_, refl, sym, _∙_}
+use mathlib.Core.Path.{_≡_, refl}
 use mathlib.Core.Bool.{Bool, true}
 use mathlib.Core.List.{List, [], _∷_, _++_, map, append-nil}
-use Prim.Native.Nat.{ℕ, zero, suc, _+_, _*_, _-_, _≤_, _<_}
+use Prim.Native.Nat.{ℕ, _+_, _*_, _-_, _≤_, _<_}
 use native.Mathlib.Numerals.{add-one}
 use native.Mathlib.Omega.{arith}
-use lib.ListN.{length, take, drop, getD, length-append}
-use lib.Seq.{length-take-le, take-suc, take-all}
+use lib.ListN.{length, take, drop, getD}
+use lib.Seq.{length-take-le, take-suc, take-all, drop-append-seam}
 use borrow.Rule.Slice.PartMut.{putMid}
 use Rattle.model.specs.records.Record.{joined}
-use Rattle.model.specs.inner.Written.{into}
 use Rattle.model.specs.tables.Tables.{all}
 use Rattle.model.specs.calls.Refusals.{over}
-use Rattle.model.proofs.Lists.{into-over, written-on, all-parts}
-use Rattle.model.proofs.keys.Key.{both}
+use Rattle.model.proofs.Lists.{rest, lent-on, take-over, over-append, all-parts}
 use Rattle.model.proofs.records.Records.{joined-append, length-joined}
 
--- each place inside a list that passes a test passes it
-pub all-inside : {A : Type 0} (test : A → Bool) (xs : List A) (i : ℕ) (d : A) → i < length xs → all test xs ≡ true → test (getD xs i d) ≡ true
-unfolding all
-all-inside test [] i d m h = absurd (omega arith)
-all-inside test (x ∷ xs) zero d m h = both (test x) (all test xs) h .0
-all-inside test (x ∷ xs) (suc i) d m h = all-inside test xs i d (omega arith) (both (test x) (all test xs) h .1)
-
--- where there is room for both, a is written, and b to what is lent on after it
-pub over-on : (n : ℕ) (a b d v w : List ℕ) → length a ≡ n → n + length b ≤ length d → v ≡ over a d
-    → w ≡ into b (take (length v - n) (drop n v)) → putMid n (length v - n) v w ≡ over (a ++ b) d
-over-on n a b d v w m r e g =
-    written-on n a b d v w (omega arith) (e ∙ sym (into-over a d (omega arith))) g
-    ∙ into-over (a ++ b) d (omega (arith, length-append a b))
+-- a is written, and b to what is lent on after it
+pub over-on : (n : ℕ) (a b d v w : List ℕ) → length a ≡ n → v ≡ over a d → w ≡ over b (take (length v - n) (drop n v))
+    → putMid n (length v - n) v w ≡ over (a ++ b) d
+over-on n a b d v w m e g =
+    let after : drop (length a) (over a d) ≡ drop (length a) d = unfold over in drop-append-seam a _ in
+    rw (lent-on, g, rest, ← m, e, take-over, after, over-append)
 
 module _ {A : Type 0} (write : A → List ℕ) (xs : List A) where
   -- the bytes of the first i values
@@ -55,9 +46,7 @@ module _ {A : Type 0} (write : A → List ℕ) (xs : List A) where
     turn-more x = rw (add-one, take-suc xs i x m, joined-append write (take i xs) (getD xs i x ∷ []), append-nil)
 
     -- the next value is written at its place, to what is lent on from there
-    pub turn-next : (x : A) (d v w : List ℕ) → i * s + s ≤ length d → v ≡ over (written i) d
-        → w ≡ into (write (getD xs i x)) (take (length v - i * s) (drop (i * s) v))
+    pub turn-next : (x : A) (d v w : List ℕ) → v ≡ over (written i) d
+        → w ≡ over (write (getD xs i x)) (take (length v - i * s) (drop (i * s) v))
         → putMid (i * s) (length v - i * s) v w ≡ over (written (i + 1)) d
-    turn-next x d v w r e g =
-        let n = size (getD xs i x) (all-inside ok xs i x m h) in
-        rw (← turn-more x) (over-on (i * s) (written i) (write (getD xs i x)) d v w turn-size (omega (arith, n)) e g)
+    turn-next x d v w e g = rw (← turn-more x) (over-on (i * s) (written i) (write (getD xs i x)) d v w turn-size e g)

@@ -28,20 +28,17 @@ loop-holds c = (search rules, search rules, search rules)
 mul-at : tie.Need-mul-at Inv-loop μ-loop
 mul-at c = search rules
 
-pivot-record-requires : tie.Need-pivot-record-requires Inv-loop μ-loop
-pivot-record-requires c κs = search rules
+sub-put-pivot : tie.Need-sub-put-pivot Inv-loop μ-loop
+sub-put-pivot c = search rules
 
-sub-store : tie.Need-sub-store Inv-loop μ-loop
-sub-store c = search rules
+part-put-pivot-start : tie.Need-part-put-pivot-start Inv-loop μ-loop
+part-put-pivot-start c = search rules
 
-part-store-start : tie.Need-part-store-start Inv-loop μ-loop
-part-store-start c = search rules
+part-put-pivot-end : tie.Need-part-put-pivot-end Inv-loop μ-loop
+part-put-pivot-end c = search rules
 
-part-store-end : tie.Need-part-store-end Inv-loop μ-loop
-part-store-end c = search rules
-
-store-requires : tie.Need-store-requires Inv-loop μ-loop
-store-requires c κs = search rules
+put-pivot-requires : tie.Need-put-pivot-requires Inv-loop μ-loop
+put-pivot-requires c κs = search rules
 
 add-i : tie.Need-add-i Inv-loop μ-loop
 add-i c = search rules
@@ -67,11 +64,10 @@ write-changed-spec =
     sub-last
     loop-holds
     mul-at
-    pivot-record-requires
-    sub-store
-    part-store-start
-    part-store-end
-    store-requires
+    sub-put-pivot
+    part-put-pivot-start
+    part-put-pivot-end
+    put-pivot-requires
     add-i
     loop-less
     loop-again

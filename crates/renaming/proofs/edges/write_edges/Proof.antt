@@ -5,8 +5,8 @@ use lib.ListN.{length, take}
 use Rattle.model.specs.records.Record.{encodeEdges}
 use Rattle.model.specs.calls.Refusals.{over}
 use Rattle.model.specs.calls.RenamingCalls.{newEdges}
-use borrow.Author.Needs.{needs}
 use Rattle.renaming.proofs.Filled.{edges-start, edges-next, edges-end}
+use borrow.Author.Needs.{needs}
 use Rattle.renaming.proofs.edges.write_edges.Statement.{statement}
 use Rattle.renaming.proofs.edges.write_edges.Tie as tie
 
@@ -25,20 +25,17 @@ loop-holds c = (search rules, search rules, search rules)
 mul-at : tie.Need-mul-at Inv-loop μ-loop
 mul-at c = search rules
 
-filled-record-requires : tie.Need-filled-record-requires Inv-loop μ-loop
-filled-record-requires c κs = search rules
+sub-put-filled : tie.Need-sub-put-filled Inv-loop μ-loop
+sub-put-filled c = search rules
 
-sub-store : tie.Need-sub-store Inv-loop μ-loop
-sub-store c = search rules
+part-put-filled-start : tie.Need-part-put-filled-start Inv-loop μ-loop
+part-put-filled-start c = search rules
 
-part-store-start : tie.Need-part-store-start Inv-loop μ-loop
-part-store-start c = search rules
+part-put-filled-end : tie.Need-part-put-filled-end Inv-loop μ-loop
+part-put-filled-end c = search rules
 
-part-store-end : tie.Need-part-store-end Inv-loop μ-loop
-part-store-end c = search rules
-
-store-requires : tie.Need-store-requires Inv-loop μ-loop
-store-requires c κs = search rules
+put-filled-requires : tie.Need-put-filled-requires Inv-loop μ-loop
+put-filled-requires c κs = search rules
 
 add-i : tie.Need-add-i Inv-loop μ-loop
 add-i c = search rules
@@ -63,11 +60,10 @@ write-edges-spec =
     μ-loop
     loop-holds
     mul-at
-    filled-record-requires
-    sub-store
-    part-store-start
-    part-store-end
-    store-requires
+    sub-put-filled
+    part-put-filled-start
+    part-put-filled-end
+    put-filled-requires
     add-i
     loop-less
     loop-again

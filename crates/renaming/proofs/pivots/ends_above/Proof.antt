@@ -9,8 +9,11 @@ ruleset rules = (needs, two-pivots, last-slot, last-below)
 sub-last : tie.Need-sub-last
 sub-last c = search rules
 
-pivot-record-requires : tie.Need-pivot-record-requires
-pivot-record-requires c κs = search rules
+slice-aggregate-put-pivot : tie.Need-slice-aggregate-put-pivot
+slice-aggregate-put-pivot c = search rules
+
+put-pivot-requires : tie.Need-put-pivot-requires
+put-pivot-requires c κs = search rules
 
 slice-aggregate-is-below : tie.Need-slice-aggregate-is-below
 slice-aggregate-is-below c = search rules
@@ -24,4 +27,10 @@ returns c = search rules
 pub ends-above-spec : {M : Type 1} → statement M
 ends-above-spec =
     tie.close
-    (tie.spec sub-last pivot-record-requires slice-aggregate-is-below is-below-requires returns)
+    (tie.spec
+    sub-last
+    slice-aggregate-put-pivot
+    put-pivot-requires
+    slice-aggregate-is-below
+    is-below-requires
+    returns)
