@@ -46,18 +46,22 @@ module _ (p e : List ℕ) (h : first (tableCauses false false p e) ≡ none) whe
   -- ---- one record
 
   module _ (i : ℕ) (m : i < length e / 66) where
+    -- nor is that of a slot
     short-here : shortEdge (edgeAt (newEdges p e) i) ≡ true
     short-here = all-at shortEdge (newEdges p e) i noEdge refl new-short
 
+    -- the slot's two pivots are in the table
     pivots-here : i + 1 < length p / 66
     pivots-here = omega (arith, table-count _ _ p e h, length-elements p, length-edges e)
 
+    -- its edge is filled by the records of its place
     filled-here : edgeAt (newEdges p e) i ≡ filled (PivotLcp (key (keyBytes (recordAt p i))) (element (recordAt p (i + 1)))) (edgeOf (recordAt e i))
     filled-here =
         filled-at (edges e) (elements p) i (table-count _ _ p e h) (omega (arith, length-edges e))
         ∙ rw (key-at p (table-wf _ _ p e h) i pivots-here, element-at p (i + 1) pivots-here, edge-at e i m)
 
     module _ (a : List ℕ) (t : Bool) (g : a ≡ recordAt e i) (f : t ≡ eqb (lengthField a) noEdgeMark) where
+      -- whether there is an edge
       edge-is : edgeOf (recordAt e i) ≡ cond t noEdge (edge (keyBytes a))
       unfolding edgeOf
       edge-is = rw (f, g)
@@ -65,6 +69,7 @@ module _ (p e : List ℕ) (h : first (tableCauses false false p e) ≡ none) whe
       -- where there is no edge, the prefix of the range is made
       module _ (u : t ≡ true) (b x s : List ℕ) (n : ℕ) (j : b ≡ recordAt p i) (o : x ≡ keyBytes b) (l : s ≡ recordAt p (i + 1))
           (c : n ≡ length (PivotLcp (key x) (element s))) where
+        -- the filled edge is the part of the left key that the prefix is
         prefix-is : edgeAt (newEdges p e) i ≡ edge (take n x)
         unfolding filled
         prefix-is = filled-here ∙ rw (edge-is, u, ← j, ← o, ← l, c) (ap edge (sym (prefix-is-take _ x (prefix-of-left x (element s)))))
@@ -72,9 +77,11 @@ module _ (p e : List ℕ) (h : first (tableCauses false false p e) ≡ none) whe
         prefix-short : length (take n x) ≤ maxLen
         prefix-short = leb-true (length (take n x)) maxLen (rw prefix-is at short-here)
 
+        -- it has room in a record
         pub prefix-room : n ≤ length x → length (take n x) + length (take 0 x) ≤ 64
         prefix-room q = omega (arith, prefix-short)
 
+        -- and its record is that of the filled edge
         pub prefix-made : (d w : List ℕ) → w ≡ over (recordOf (length (take n x ++ take 0 x)) (take n x ++ take 0 x)) d
             → w ≡ over (encodeEdge (edgeAt (newEdges p e) i)) d
         unfolding encodeEdge
@@ -82,6 +89,7 @@ module _ (p e : List ℕ) (h : first (tableCauses false false p e) ≡ none) whe
 
       -- where there is one, it is made again
       module _ (u : t ≡ false) (k : List ℕ) (o : k ≡ keyBytes a) where
+        -- the filled edge is the edge itself
         kept-is : edgeAt (newEdges p e) i ≡ edge k
         unfolding filled
         kept-is = filled-here ∙ rw (edge-is, u, o)
@@ -89,19 +97,23 @@ module _ (p e : List ℕ) (h : first (tableCauses false false p e) ≡ none) whe
         kept-short : length k ≤ maxLen
         kept-short = leb-true (length k) maxLen (rw kept-is at short-here)
 
+        -- it has room in a record
         pub kept-room : length k + length (take 0 k) ≤ 64
         kept-room = omega (arith, kept-short)
 
+        -- and its record is that of the filled edge
         pub kept-made : (d w : List ℕ) → w ≡ over (recordOf (length (k ++ take 0 k)) (k ++ take 0 k)) d → w ≡ over (encodeEdge (edgeAt (newEdges p e) i)) d
         unfolding encodeEdge
         kept-made d w f = f ∙ rw (kept-is, append-nil)
 
   -- ---- all records
 
+  -- at first nothing is written
   pub edges-start : (d : List ℕ) → d ≡ over (encodeEdges (take 0 (newEdges p e))) d
   unfolding encodeEdges
   edges-start d = turn-start encodeEdge (newEdges p e) d
 
+  -- one slot more
   pub edges-next : (i : ℕ) (d v w : List ℕ) → i < length e / 66 → v ≡ over (encodeEdges (take i (newEdges p e))) d
       → w ≡ over (encodeEdge (edgeAt (newEdges p e) i)) (take (length v - i * 66) (drop (i * 66) v))
       → putMid (i * 66) (length v - i * 66) v w ≡ over (encodeEdges (take (i + 1) (newEdges p e))) d
@@ -109,6 +121,7 @@ module _ (p e : List ℕ) (h : first (tableCauses false false p e) ≡ none) whe
   edges-next i d v w l f g =
       turn-next encodeEdge (newEdges p e) recordSize shortEdge length-encodeEdge new-short i (omega (arith, new-count)) noEdge d v w f g
 
+  -- after the last slot everything is
   pub edges-end : (i : ℕ) (d v : List ℕ) → length e / 66 ≤ i → v ≡ over (encodeEdges (take i (newEdges p e))) d → v ≡ over (encodeEdges (newEdges p e)) d
   unfolding encodeEdges
   edges-end i d v l f = turn-end encodeEdge (newEdges p e) i d v (omega (arith, new-count)) f
@@ -116,14 +129,18 @@ module _ (p e : List ℕ) (h : first (tableCauses false false p e) ≡ none) whe
   -- ---- what is answered
 
   module _ {A : Type 0} (f : Refusal → A) (v x : A) (d : List ℕ) where
+    -- the filled edges take the room of the edges lent
     size : length (newEdges p e) * recordSize ≡ length e
     size = sym (rw (filled-length (edges e) (elements p) (table-count _ _ p e h)) (table-edges-whole _ _ p e h))
 
+    -- a shorter destination is refused
     pub no-room : length d < length e → x ≡ f NoRoom → x ≡ outcome f (edgesCauses p e d) v
     no-room l y = after f v x (tableCauses false false p e) _ h (here f v x _ NoRoom [] (rw size (lt-ltb (length d) (length e) l)) y)
 
+    -- and one that isn't is written to
     pub room : length e ≤ length d → x ≡ v → x ≡ outcome f (edgesCauses p e d) v
     room l y = after f v x (tableCauses false false p e) _ h (later f v x _ NoRoom [] (rw size (le-ltb (length d) (length e) l)) (done f v x y))
 
+  -- how many edges are answered
   pub counted : length e / 66 ≡ length (newEdges p e)
   counted = sym new-count

@@ -16,13 +16,16 @@ use Rattle.model.proofs.records.Record.{length-record}
 
 -- ---- the length field and zeros
 
+-- at first no zero is written
 pub head-start : (d : List ℕ) → d ≡ zeros 0 ++ drop 0 d
 head-start d = refl
 
 module _ (d v : List ℕ) (i : ℕ) (e : v ≡ zeros i ++ drop i d) where
+  -- one zero more
   pub head-turn : i < 66 → 66 ≤ length d → set v i 0 ≡ zeros (i + 1) ++ drop (i + 1) d
   head-turn h m = rw e (fill-more i 0 d (omega arith))
 
+  -- over 66 zeros the length field is written in its second byte
   pub head-end : (n : ℕ) → i ≤ 66 → 66 ≤ i → n < 256 → set v 1 n ≡ over (recordOf n []) d
   unfolding over recordOf
   head-end n h j m =
@@ -33,6 +36,7 @@ module _ (d v : List ℕ) (i : ℕ) (e : v ≡ zeros i ++ drop i d) where
 
 -- ---- the key's bytes over the zeros
 
+-- what is left of zeros
 drop-zeros : (m n : ℕ) → m ≤ n → drop m (zeros n) ≡ zeros (n - m)
 drop-zeros m n h =
     let e : n ≡ m + (n - m) = omega arith in
@@ -51,9 +55,11 @@ unfolding over
 over-record f k d h = rw (length-record f k h) (unfold recordOf in refl)
 
 module _ (a b d v w : List ℕ) (h : length a + length b ≤ 64) (m : 66 ≤ length d) (e : v ≡ over (recordOf (length a + length b) []) d) where
+  -- what stands before the key's bytes are written
   head-is : v ≡ (length a + length b) / 256 ∷ (length a + length b) % 256 ∷ (zeros maxLen ++ drop 66 d)
   head-is = e ∙ over-record (length a + length b) [] d (omega arith)
 
+  -- and after them: the record of the whole key
   pub joined-made : w ≡ into (a ++ b) (take (length v - 2) (drop 2 v)) → putMid 2 (length v - 2) v w ≡ over (recordOf (length (a ++ b)) (a ++ b)) d
   joined-made g =
       let n : length (a ++ b) ≡ length a + length b = length-append a b in

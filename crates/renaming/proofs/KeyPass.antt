@@ -59,54 +59,67 @@ pub record Passing (v p q : List ℕ) (fit : Bool) (i : ℕ) : Type 0 where
   pub short : all shortElement (changedPivots v p q) ≡ (fit && all shortElement (map (TranslateElement p q) (drop i (butLast (elements v)))))
 
 module _ (v p q : List ℕ) where
+  -- before the first key
   pub pass-start : WFPivots (elements v) ≡ true → length q ≤ 64 → Passing v p q true 0
   pass-start wf h = record { wf = wf; room = h; within = omega (arith, wf-count (elements v) wf, length-elements v); begin = refl; short = refl }
 
   module _ (fit : Bool) (i : ℕ) (w : Passing v p q fit i) where
     module _ (a k : List ℕ) (t : Bool) (m : i + 1 < length v / 66) (f : a ≡ recordAt v i) (g : k ≡ keyBytes a) (e : t ≡ IsPrefix p k) where
+      -- what is left begins with the key at the place
       here-key : drop i (butLast (elements v)) ≡ key k ∷ drop (i + 1) (butLast (elements v))
       here-key = rw (add-one, g, f, ← but-at v (w .wf) i m) (drop-cons (butLast (elements v)) i max (omega (arith, but-count v (w .wf))))
 
+      -- it decides with those after it whether all begin
       begin-on : all (begun p) (butLast (elements v)) ≡ (t && all (begun p) (drop (i + 1) (butLast (elements v))))
       unfolding all
       begin-on = w .begin ∙ rw (here-key, e)
 
+      -- and with the others whether all are short
       short-on : all shortElement (changedPivots v p q)
           ≡ ((fit && leb (length k) (64 - length q + length p)) && all shortElement (map (TranslateElement p q) (drop (i + 1) (butLast (elements v)))))
       unfolding all TranslateElement
       short-on = w .short ∙ rw (here-key, changed-fits p q k (w .room), and-assoc)
 
+      -- a key that lacks the prefix is refused
       pub not-begun : (n : ℕ) → not t ≡ true → Refused NotPrefix ≡ answer (changeCauses v p q) n
       not-begun n h = here Refused _ _ _ NotPrefix _ (rw (begin-on, not-true t h)) refl
 
+      -- one that has it is passed
       pub pass-next : (u : Bool) → not t ≡ false → u ≡ (fit && leb (length k) (64 - length q + length p)) → Passing v p q u (i + 1)
       pass-next u h j = record { wf = w .wf; room = w .room; within = omega arith; begin = begin-on ∙ rw (not-false t h); short = short-on ∙ rw j }
 
     module _ (m : length v / 66 ≤ i + 1) (n : ℕ) where
+      -- after the last key nothing is left
       none-left : drop i (butLast (elements v)) ≡ []
       none-left =
           let h : length (butLast (elements v)) ≤ i = omega (arith, but-count v (w .wf)) in
           drop-of-length-le (butLast (elements v)) h
 
+      -- so all begin
       all-begin : not (all (begun p) (butLast (elements v))) ≡ false
       unfolding all
       all-begin = rw (w .begin, none-left)
 
+      -- and all are short where the keys fit
       all-short : all shortElement (changedPivots v p q) ≡ (fit && true)
       unfolding all
       all-short = rw (w .short, none-left)
 
+      -- a key that did not fit is refused
       pub pass-long : not fit ≡ true → Refused TooLong ≡ answer (changeCauses v p q) n
       pass-long h = later Refused _ _ _ NotPrefix _ all-begin (here Refused _ _ _ TooLong _ (rw (all-short, not-true fit h)) refl)
 
+      -- else neither cause applies
       pub pass-done : not fit ≡ false → Value n ≡ answer (changeCauses v p q) n
       pass-done h = later Refused _ _ _ NotPrefix _ all-begin (later Refused _ _ _ TooLong _ (rw (all-short, not-false fit h)) (done Refused _ _ refl))
 
 -- ---- one key more
 
 module _ (fit : Bool) (n most : ℕ) where
+  -- where all fit so far, the next decides
   pub fit-here : fit ≡ true → leb n most ≡ (fit && leb n most)
   fit-here h = rw h
 
+  -- where one did not, nothing changes it
   pub fit-before : fit ≡ false → false ≡ (fit && leb n most)
   fit-before h = rw h

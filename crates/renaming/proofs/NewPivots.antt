@@ -52,6 +52,7 @@ module _ (v p q : List ℕ) (c : Changeable v p q) where
   pub two-pivots : 2 ≤ length v / 66
   two-pivots = omega (arith, wf-count (elements v) (c .wf), length-elements v)
 
+  -- so there is one before the last
   pub one-pivot : 1 ≤ length v / 66
   one-pivot = omega (arith, two-pivots)
 
@@ -62,30 +63,37 @@ module _ (v p q : List ℕ) (c : Changeable v p q) where
   -- ---- one record
 
   module _ (i : ℕ) (m : i + 1 < length v / 66) where
+    -- at each place stands the pivot there, changed
     changed-at : getD (changedPivots v p q) i max ≡ TranslateElement p q (pivotAt (elements v) i)
     changed-at =
         getD-map (TranslateElement p q) (butLast (elements v)) i max max (omega (arith, but-count v (c .wf)))
         ∙ rw (but-at v (c .wf) i m, key-at v (c .wf) i m)
 
+    -- it is not too long
     short-here : shortElement (TranslateElement p q (pivotAt (elements v) i)) ≡ true
     short-here = rw (← changed-at) (all-inside shortElement (changedPivots v p q) i max (omega (arith, changed-count)) changed-short)
 
     module _ (a k : List ℕ) (f : a ≡ recordAt v i) (g : k ≡ keyBytes a) where
+      -- it is the changed key of the record there
       changed-is : TranslateElement p q (pivotAt (elements v) i) ≡ key (changePrefix p q k)
       unfolding TranslateElement
       changed-is = rw (key-at v (c .wf) i m, g, f)
 
+      -- the old prefix is no longer than the key
       pub key-begun : length p ≤ length k
       key-begun =
           let b = all-inside (begun p) (butLast (elements v)) i max (omega (arith, but-count v (c .wf))) all-begin in
           prefix-length p k (rw (g, f) (rw (but-at v (c .wf) i m) at b))
 
+      -- the changed key has at most 64 bytes
       changed-room : length q + (length k - length p) ≤ 64
       changed-room = rw (← length-change p q k) (leb-true (length (changePrefix p q k)) 64 (rw changed-is at short-here))
 
+      -- so have the new prefix and what the key has beyond the old one
       pub key-room : length q + length (take (length k - length p) (drop (length p) k)) ≤ 64
       key-room = rw (rest k (length p), length-drop (length p) k) changed-room
 
+      -- and their record is that of the changed pivot
       pub key-made : (d w : List ℕ)
           → w ≡ over (recordOf (length (q ++ take (length k - length p) (drop (length p) k))) (q ++ take (length k - length p) (drop (length p) k))) d
           → w ≡ over (encode (TranslateElement p q (pivotAt (elements v) i))) d
@@ -94,10 +102,12 @@ module _ (v p q : List ℕ) (c : Changeable v p q) where
 
   -- ---- all records but the end's
 
+  -- at first nothing is written
   pub changed-start : (d : List ℕ) → d ≡ over (encodeAll (take 0 (changedPivots v p q))) d
   unfolding encodeAll
   changed-start d = turn-start encode (changedPivots v p q) d
 
+  -- one pivot more
   pub changed-next : (i : ℕ) (d u w : List ℕ) → i < length v / 66 - 1 → u ≡ over (encodeAll (take i (changedPivots v p q))) d
       → w ≡ over (encode (TranslateElement p q (pivotAt (elements v) i))) (take (length u - i * 66) (drop (i * 66) u))
       → putMid (i * 66) (length u - i * 66) u w ≡ over (encodeAll (take (i + 1) (changedPivots v p q))) d
@@ -106,6 +116,7 @@ module _ (v p q : List ℕ) (c : Changeable v p q) where
       turn-next encode (changedPivots v p q) recordSize shortElement length-encode changed-short i (omega (arith, changed-count)) max d u w f
       (g ∙ rw (changed-at i (omega arith)))
 
+  -- after the last of them everything is
   pub changed-end : (i : ℕ) (d u : List ℕ) → length v / 66 - 1 ≤ i → u ≡ over (encodeAll (take i (changedPivots v p q))) d
       → u ≡ over (encodeAll (changedPivots v p q)) d
   unfolding encodeAll
@@ -113,9 +124,11 @@ module _ (v p q : List ℕ) (c : Changeable v p q) where
 
   -- ---- the last key
 
+  -- the pivot before the last is not the last
   pub last-slot : length v / 66 - 2 + 1 < length v / 66
   last-slot = omega (arith, two-pivots)
 
+  -- its record, alone in an array, is compared with the end's
   pub last-below : (r n d : List ℕ) (t : Bool) → r ≡ over (encode (TranslateElement p q (pivotAt (elements v) (length v / 66 - 2)))) d → length d ≡ 66
       → t ≡ lt (element r) (element n) → t ≡ lt (lastTranslated v p q) (element n)
   last-below r n d t e m f =
