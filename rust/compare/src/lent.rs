@@ -38,17 +38,22 @@ impl Guarded {
     }
 }
 
-/// A lent slice as C sees it.
-#[derive(Clone, Copy)]
+/// A lent slice or destination as C sees it. A slice's pointer is mutable too, so that a write
+/// through it would be seen and not be undefined.
 pub struct Part {
-    pub at: *const u8,
+    pub at: *mut u8,
     pub len: usize,
 }
 
-/// A lent destination as C sees it.
-pub struct Dest {
-    pub at: *mut u8,
-    pub len: usize,
+fn parts<const N: usize>(lent: &mut [Guarded]) -> [Part; N] {
+    let mut lent = lent.iter_mut();
+    std::array::from_fn(|_| {
+        let one = lent.next().expect("no call takes more");
+        Part {
+            at: one.pointer(),
+            len: one.content().len(),
+        }
+    })
 }
 
 pub struct Lent {
@@ -85,27 +90,12 @@ impl Lent {
 
     /// The first slices, as many as the call takes.
     pub fn slices<const N: usize>(&mut self) -> [Part; N] {
-        let mut slices = self.slices.iter_mut();
-        std::array::from_fn(|_| {
-            let slice = slices.next().expect("no call takes more slices");
-            // A mutable pointer, so that a write through it would be seen and not be undefined.
-            Part {
-                at: slice.pointer(),
-                len: slice.content().len(),
-            }
-        })
+        parts(&mut self.slices)
     }
 
     /// The first destinations, as many as the call takes.
-    pub fn dests<const N: usize>(&mut self) -> [Dest; N] {
-        let mut dests = self.dests.iter_mut();
-        std::array::from_fn(|_| {
-            let dest = dests.next().expect("no call takes more destinations");
-            Dest {
-                at: dest.pointer(),
-                len: dest.content().len(),
-            }
-        })
+    pub fn dests<const N: usize>(&mut self) -> [Part; N] {
+        parts(&mut self.dests)
     }
 
     /// The pointer for the answer; to be taken last, after the slices.

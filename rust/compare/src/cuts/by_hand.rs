@@ -80,36 +80,20 @@ pub fn limits(group: &mut Group) {
     };
     let left = table(&[&[0x41, 0x30], &[0x41, 0x31]]);
     let edge = record(&grown(0x30));
-    at(
-        &SPLIT_LEFT,
-        &enough,
-        &[0x41, 0x31],
-        Answers(2, [&left, &edge]),
-    );
+    let wanted = Answers(2, [&left, &edge]);
+    at(&SPLIT_LEFT, &enough, &[0x41, 0x31], wanted);
     at(&SPLIT_LEFT, &over, &[0x41, 0x31], Refusal(8));
     let left = table(&[&[0x41, 0x30], &[0x41, 0x32]]);
-    at(
-        &SPLIT_LEFT,
-        &over,
-        &[0x41, 0x32],
-        Answers(2, [&left, &record(&long)]),
-    );
+    let wanted = Answers(2, [&left, &record(&long)]);
+    at(&SPLIT_LEFT, &over, &[0x41, 0x32], wanted);
     let right = table(&[&[0x41, 0x34], &[0x41, 0x35], &[0x42]]);
     let edges = edges_with(&grown(0x34));
-    at(
-        &SPLIT_RIGHT,
-        &enough,
-        &[0x41, 0x34],
-        Answers(3, [&right, &edges]),
-    );
+    let wanted = Answers(3, [&right, &edges]);
+    at(&SPLIT_RIGHT, &enough, &[0x41, 0x34], wanted);
     at(&SPLIT_RIGHT, &over, &[0x41, 0x34], Refusal(8));
     let right = table(&[&[0x41, 0x33], &[0x41, 0x35], &[0x42]]);
-    at(
-        &SPLIT_RIGHT,
-        &over,
-        &[0x41, 0x33],
-        Answers(3, [&right, &over]),
-    );
+    let wanted = Answers(3, [&right, &over]);
+    at(&SPLIT_RIGHT, &over, &[0x41, 0x33], wanted);
 }
 
 /// The same in a translated key, and not in its pair.
