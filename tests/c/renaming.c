@@ -184,6 +184,7 @@ static void child_causes(void)
     in_child("8, a bound of 65", long_edge, all, 0, JD_TOO_LONG, 0);
     in_child("8, though it would be no", long_edge, elsewhere, 0, JD_TOO_LONG, 0);
     in_child("the other slot", long_edge, all, 1, 0, 1);
+    in_child("1, 65 pivots of the child", t(), rising(65), 0, JD_SHAPE, 0);
     in_child("1 of the child before 2", wrong, rising(1), 9, JD_SHAPE, 0);
     in_child("1 of the edges before 2", (pair){wrong.pivots, absent(1)}, wrong.pivots, 9, JD_SHAPE,
              0);
