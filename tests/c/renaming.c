@@ -175,14 +175,18 @@ static void children(void)
 static void child_causes(void)
 {
     slice all = TABLE(key(none), record(JD_MAX, none)), c = key(BYTES("C")), e = edges_of_t();
-    slice elsewhere = TABLE(key(BYTES("\x01")), key(BYTES("\x02")));
+    slice below = TABLE(key(BYTES("\x01")), key(BYTES("\x02")));
+    slice above = TABLE(key(BYTES("\xfe")), record(JD_MAX, none));
     slice apart = TABLE(key(BYTES("A")), c, key(BYTES("C0")));
     pair long_edge = {pivots_of_t(), TABLE(key(full), record(JD_NO_EDGE, none))};
     pair short_edge = {pivots_of_t(), TABLE(key(after_c(63, "")), record(JD_NO_EDGE, none))};
+    pair right_alone = {TABLE(key(BYTES("A")), key(BYTES("A0"))), key(full)};
     pair wrong = {falling_and_wrong(), e};
     in_child("a bound of 64", short_edge, all, 0, 0, 1);
     in_child("8, a bound of 65", long_edge, all, 0, JD_TOO_LONG, 0);
-    in_child("8, though it would be no", long_edge, elsewhere, 0, JD_TOO_LONG, 0);
+    in_child("8, the right bound alone", right_alone, all, 0, JD_TOO_LONG, 0);
+    in_child("8, though the child is below", long_edge, below, 0, JD_TOO_LONG, 0);
+    in_child("8, though the child is above", long_edge, above, 0, JD_TOO_LONG, 0);
     in_child("the other slot", long_edge, all, 1, 0, 1);
     in_child("1, 65 pivots of the child", t(), rising(65), 0, JD_SHAPE, 0);
     in_child("1 of the child before 2", wrong, rising(1), 9, JD_SHAPE, 0);

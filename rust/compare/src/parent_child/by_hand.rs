@@ -69,6 +69,7 @@ pub fn limits(group: &mut Group) {
     case(group, [&t, &short, &none], 0, Answer(0, &[]));
     case(group, [&t, &full, &all], 0, Refusal(8));
     case(group, [&t, &full, &none], 0, Refusal(8));
+    case(group, [&t, &full, &child(&[0xFE], None)], 0, Refusal(8));
     case(group, [&t, &full, &all], 1, Answer(1, &[]));
     let pivots = table(&[&[0x41], &[0x41, 0x30]]);
     case(group, [&pivots, &record(&long), &all], 0, Refusal(8));
