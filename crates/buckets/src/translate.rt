@@ -50,14 +50,13 @@ fn fits(bucket: &[u8], prefix: &[u8], new_prefix: &[u8], dest_len: usize) -> Dec
     requires { ⌜ Good (now bucket) (now prefix) (now «new_prefix») ⌝ }
     ensures { λ r. ⌜ r ≡ yesOrNo (not (bucketLong (now (bucket .entry)) (now (prefix .entry)) (now («new_prefix» .entry)) || bucketFull (now (bucket .entry)) (now (prefix .entry)) (now («new_prefix» .entry)) «dest_len»)) ⌝ }
 {
-    let measured = measure(bucket, prefix, new_prefix);
-    let Answer::Value(_) = measured else {
+    let Answer::Value(_) = measure(bucket, prefix, new_prefix) else {
         return Decided::No;
     };
-    if dest_len < needed(bucket) {
-        return Decided::No;
+    if needed(bucket) <= dest_len {
+        return Decided::Yes;
     }
-    Decided::Yes
+    Decided::No
 }
 
 // TranslateBucketWillFit: whether translate_bucket would be accepted with a destination of so many bytes. Refuses 1 and 2.
