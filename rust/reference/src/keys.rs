@@ -1,7 +1,8 @@
 //! Keys and order: compare, the key of a record or an entry, change of prefix.
+use crate::entry::{one_entry, Entry};
 use crate::image::Image;
-use crate::record::{element, key, one_record, short, ENTRY_SIZE};
-use crate::refusal::{refuse_if, Refusal};
+use crate::record::{element, key, one_record, short};
+use crate::refusal::Refusal;
 use std::cmp::Ordering;
 
 /// The order of two elements.
@@ -15,11 +16,10 @@ pub fn pivot_key(record: &[u8]) -> Result<&[u8], Refusal> {
     key(one_record(record)?)
 }
 
-/// The key of an entry, a record and a number of four bytes.
+/// The key of an entry.
 pub fn entry_key(entry: &[u8]) -> Result<&[u8], Refusal> {
-    refuse_if(entry.len() != ENTRY_SIZE, Refusal::Shape)?;
-    let record = entry.first_chunk().ok_or(Refusal::Shape)?;
-    key(record)
+    let entry = Entry::read(one_entry(entry)?)?;
+    Ok(entry.key)
 }
 
 /// Writes the key with the new prefix in place of the old one and answers its length.

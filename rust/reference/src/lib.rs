@@ -1,14 +1,18 @@
 //! A separate implementation of joistdenim's calls, in plain Rust, written from document 01's
 //! words. The archive is compared with it; it shares no code with the archive or its wrapper.
 //!
-//! A call reads its bytes into `Element` and `Edge` values first, and a `?` for each cause stands
-//! in the order of the refusals' numbers: cause 1 of every argument, then cause 2 of every
-//! argument, and so on.
+//! A call reads its bytes into `Element`, `Edge` and `Entry` values first, and a `?` for each
+//! cause stands in the order of the refusals' numbers: cause 1 of every argument, then cause 2 of
+//! every argument, and so on.
 #![forbid(unsafe_code)]
 
 #[cfg(test)]
+mod bucket_tests;
+mod buckets;
+#[cfg(test)]
 mod cut_tests;
 mod cuts;
+mod entry;
 mod image;
 mod keys;
 mod list;
@@ -36,14 +40,16 @@ mod test_tables;
 mod translation;
 mod upper_bound;
 
+pub use buckets::{translate_bucket, translate_bucket_will_fit, MAX_ENTRIES};
 pub use cuts::{split_left, split_right};
+pub use entry::ENTRY_SIZE;
 pub use keys::{change_prefix, compare, entry_key, pivot_key};
 pub use list::list_table;
 pub use pairs::{apply_pair, compose_pairs, reverse_pair, PAIR_SIZE};
 pub use parent_child::parent_keys_in_child_range;
 pub use plain_cut::{plain_cut, PlainCut};
 pub use range_prefix::{pivot_lcp, range_prefix};
-pub use record::{Edge, Element, ENTRY_SIZE, MAX_LEN, RECORD_SIZE};
+pub use record::{Edge, Element, MAX_LEN, RECORD_SIZE};
 pub use refusal::Refusal;
 pub use renaming::{translate_edges, translate_pivot_pair, translate_pivots};
 pub use table::{MAX_PIVOTS, MIN_PIVOTS};

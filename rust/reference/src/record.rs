@@ -4,7 +4,6 @@ use crate::refusal::{refuse_if, Refusal};
 
 pub const MAX_LEN: usize = 64;
 pub const RECORD_SIZE: usize = 66;
-pub const ENTRY_SIZE: usize = 70;
 const NO_EDGE: u16 = 65_534;
 const MAX: u16 = 65_535;
 

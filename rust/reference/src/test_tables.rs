@@ -1,4 +1,4 @@
-//! Records, tables and pairs for the tests.
+//! Records, tables, pairs and buckets for the tests.
 use crate::{PAIR_SIZE, RECORD_SIZE};
 
 pub fn field(field: u16) -> Vec<u8> {
@@ -45,4 +45,15 @@ pub fn pair(old: &[u8], new: &[u8]) -> Vec<u8> {
     record[5..5 + old.len()].copy_from_slice(old);
     record[69..69 + new.len()].copy_from_slice(new);
     record
+}
+
+/// The entry with this record and this number.
+pub fn entry(record: Vec<u8>, number: u32) -> Vec<u8> {
+    [record, number.to_be_bytes().to_vec()].concat()
+}
+
+/// A bucket of these keys, numbered from 1.
+pub fn bucket(keys: &[&[u8]]) -> Vec<u8> {
+    let entries = (1..).zip(keys).map(|(i, key)| entry(record(key), i));
+    entries.flatten().collect()
 }
