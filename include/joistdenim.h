@@ -13,7 +13,8 @@
  * JD_MAX_LEN bytes, zero after the key, which begins at byte 2. The field is the key's length,
  * JD_NO_EDGE or JD_MAX; all else is malformed, and so is a mark before a byte that isn't zero.
  * An element is a record with a key or max. An entry has JD_ENTRY_SIZE bytes: a record with a
- * key, and a number of four bytes. A key or prefix argument is lent as its bytes alone.
+ * key, and a number of four bytes, high byte first. A key or prefix argument is lent as its bytes
+ * alone.
  *
  * A pair changes an old prefix to a new one, or is absent and changes nothing. It has
  * JD_PAIR_SIZE bytes: a flag, 1 where it is there and 0 where it is absent; the lengths of old
@@ -34,13 +35,14 @@
 #define JD_PAIR_SIZE 133
 #define JD_MIN_PIVOTS 2
 #define JD_MAX_PIVOTS 64
+#define JD_MAX_ENTRIES 512
 
 /* The two marks in a record's length field. */
 #define JD_NO_EDGE 65534
 #define JD_MAX 65535
 
 enum jd_refusal {
-    JD_SHAPE = 1,        /* a slice isn't the records or the pair it should be */
+    JD_SHAPE = 1,        /* a slice isn't the records, entries or pair it should be */
     JD_MALFORMED = 2,    /* a malformed record or pair, a wrong mark, or a key over 64 bytes */
     JD_UNSORTED = 3,     /* pivots don't rise strictly */
     JD_EMPTY_PREFIX = 4, /* an edge where the range's prefix is empty */
@@ -240,6 +242,25 @@ uint32_t jd_parent_keys_in_child_range(const uint8_t *parent_pivots, size_t pare
                                        const uint8_t *parent_edges, size_t parent_edges_len,
                                        const uint8_t *child_pivots, size_t child_pivots_len,
                                        uint64_t slot, uint64_t *yes);
+
+/* ---- Buckets under another prefix. A bucket is 0 to JD_MAX_ENTRIES entries, in any order; keys
+ * may be equal. */
+
+/* Writes the entries whose key begins with the prefix, in their order, with the prefix changed and
+ * the number as it was; the others are passed over. Answers how many are written. The destination
+ * must hold as many entries as the bucket has, however few are kept. Refuses JD_SHAPE,
+ * JD_MALFORMED (of any entry), JD_TOO_LONG (of a kept one), JD_NO_ROOM. */
+uint32_t jd_translate_bucket(const uint8_t *bucket, size_t bucket_len,
+                             const uint8_t *prefix, size_t prefix_len,
+                             const uint8_t *new_prefix, size_t new_prefix_len,
+                             uint8_t *dest, size_t dest_len, uint64_t *kept);
+
+/* Whether jd_translate_bucket takes these with a destination of dest_len bytes: no exactly where
+ * it would refuse JD_TOO_LONG or JD_NO_ROOM. Refuses JD_SHAPE, JD_MALFORMED. */
+uint32_t jd_translate_bucket_will_fit(const uint8_t *bucket, size_t bucket_len,
+                                      const uint8_t *prefix, size_t prefix_len,
+                                      const uint8_t *new_prefix, size_t new_prefix_len,
+                                      uint64_t dest_len, uint64_t *yes);
 
 /* ---- The list of a table, as text. */
 

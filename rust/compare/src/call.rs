@@ -1,5 +1,6 @@
 //! A call in both implementations, and what it leaves.
 use crate::asked::{Asked, MOST_DESTS};
+use crate::inputs::ENTRY_SIZE;
 use crate::lent::{is_as_before, Lent};
 use std::fmt;
 
@@ -14,6 +15,7 @@ pub enum Kind {
     Child,
     Edges,
     Pair,
+    Bucket,
     /// The count of the pivots, the pivots and the edges.
     Input,
 }
@@ -50,13 +52,17 @@ pub const fn call(
     }
 }
 
-/// What stands in one destination where the answer counts bytes, and where it counts records.
+/// What stands in one destination where the answer counts bytes, records or entries.
 pub fn bytes(count: u64) -> [usize; MOST_DESTS] {
     [count as usize, 0]
 }
 
 pub fn records(count: u64) -> [usize; MOST_DESTS] {
     [66 * count as usize, 0]
+}
+
+pub fn entries(count: u64) -> [usize; MOST_DESTS] {
+    [ENTRY_SIZE * count as usize, 0]
 }
 
 /// The destinations of one case, to be written to; one that the call doesn't have is empty.

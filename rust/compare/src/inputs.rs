@@ -6,6 +6,11 @@ pub const MAX: u16 = 65_535;
 
 pub type Record = [u8; 66];
 
+pub const ENTRY_SIZE: usize = 70;
+pub const MAX_ENTRIES: usize = 512;
+
+pub type Entry = [u8; ENTRY_SIZE];
+
 /// All keys of up to `longest` bytes over 00, 01, FE, FF: 341 for 4.
 pub fn small_keys(longest: usize) -> Vec<Vec<u8>> {
     let mut keys = vec![vec![]];
@@ -37,8 +42,8 @@ pub fn field_record(field: u16) -> Record {
 }
 
 /// An entry with this record and a number without a zero byte.
-pub fn entry(record: &Record) -> [u8; 70] {
-    let mut entry = [0x91; 70];
+pub fn entry(record: &Record) -> Entry {
+    let mut entry = [0x91; ENTRY_SIZE];
     entry[..66].copy_from_slice(record);
     entry
 }
@@ -92,4 +97,20 @@ pub fn near(random: &mut Xorshift, base: &[u8]) -> Vec<u8> {
         key.extend(random_bytes(random, more));
     }
     key
+}
+
+/// A new prefix in place of `prefix`, so long that the longest of the keys has nearly 64 bytes,
+/// or a few more; some end with FF.
+pub fn new_prefix(random: &mut Xorshift, prefix: &[u8], longest: usize) -> Vec<u8> {
+    let room = 64 - longest.saturating_sub(prefix.len());
+    let len = match random.below(3) {
+        0 => random.below(room + 1),
+        _ => (room + 2).saturating_sub(random.below(6)),
+    };
+    let mut new = random_bytes(random, len);
+    if random.one_in(4) {
+        let from = random.below(len + 1);
+        new[from..].fill(0xFF);
+    }
+    new
 }

@@ -2,6 +2,7 @@
 //! destination, beside good and bad slices in the others. So every order of causes over the
 //! arguments comes up.
 use crate::asked::{Asked, MOST_DESTS};
+use crate::bucket_inputs::usual_buckets;
 use crate::call::{Call, Kind};
 use crate::group::Group;
 use crate::inputs::{counted, entry, field_record, record, MAX, NO_EDGE};
@@ -30,6 +31,7 @@ pub fn usual(kind: Kind) -> Vec<Vec<u8>> {
         Kind::Pivots | Kind::Child => usual_pivots(),
         Kind::Edges => usual_edges(),
         Kind::Pair => usual_pairs(),
+        Kind::Bucket => usual_buckets(),
         Kind::Input => usual_inputs(),
     }
 }

@@ -122,9 +122,9 @@ impl Lent {
 }
 
 /// Calls a function of the archive with the slices that are lent and, after the semicolon, the
-/// destinations.
+/// destinations; after another semicolon with a number.
 macro_rules! lend {
-    ($lent:ident, $call:path, $($slice:ident),*; $($dest:ident),*) => {{
+    ($lent:ident, $call:path, $($slice:ident),*; $($dest:ident),* $(; $number:expr)?) => {{
         let [$($slice),*] = $lent.slices();
         let [$($dest),*] = $lent.dests();
         // SAFETY: `Lent` owns the bytes, each slice is good for its length, and no two overlap.
@@ -132,6 +132,7 @@ macro_rules! lend {
             $call(
                 $($slice.at, $slice.len,)*
                 $($dest.at, $dest.len,)*
+                $($number,)?
                 $lent.answer().cast(),
             )
         }

@@ -2,6 +2,8 @@
 //! 'N passed, M failed' over the groups; the status is 1 where one failed.
 mod answers;
 mod asked;
+mod bucket_inputs;
+mod buckets;
 mod call;
 mod changes;
 mod cuts;
@@ -97,6 +99,7 @@ fn main() -> ExitCode {
         pairs::tests(),
         renaming::tests(),
         parent_child::tests(),
+        buckets::tests(),
         list::tests(),
     ];
     for test in tests.into_iter().flatten() {

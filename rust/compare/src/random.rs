@@ -1,6 +1,7 @@
 //! One group for each call: random slices, the same in every run. The slices of a case come from
 //! one random key, so that they often begin alike; some are changed or are random bytes alone.
 use crate::asked::{Asked, MOST_DESTS};
+use crate::bucket_inputs::random_bucket;
 use crate::call::{Call, Kind};
 use crate::dests::around;
 use crate::group::Group;
@@ -53,13 +54,14 @@ fn slice(random: &mut Xorshift, kind: Kind, base: &[u8]) -> Vec<u8> {
         },
         Kind::Pivots | Kind::Child => random_pivots(random, base),
         Kind::Pair => random_pair(random, base),
+        Kind::Bucket => random_bucket(random, base),
         Kind::Edges => random_edges(random, base),
         Kind::Input => joined(&random_pivots(random, base), &random_edges(random, base)),
     }
 }
 
 /// Slices for each argument, from one base.
-fn slices(random: &mut Xorshift, call: &Call) -> Vec<Vec<u8>> {
+pub fn slices(random: &mut Xorshift, call: &Call) -> Vec<Vec<u8>> {
     let base = base(random);
     let kinds = call.arguments.iter().map(|(_, kind)| *kind);
     kinds.map(|kind| slice(random, kind, &base)).collect()

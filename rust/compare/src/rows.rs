@@ -2,7 +2,7 @@
 use crate::asked::Asked;
 use crate::call::Call;
 use crate::group::{Group, Wanted};
-use crate::inputs::{field_record, record, Record, MAX, NO_EDGE};
+use crate::inputs::{entry, field_record, record, Record, MAX, NO_EDGE};
 use crate::key_calls::{
     CHANGE_PREFIX, COMPARE, ENTRY_KEY, PIVOT_KEY, PIVOT_LCP, SHORTEST_UNCOMMON_PREFIX,
 };
@@ -67,9 +67,7 @@ pub fn orders(group: &mut Group) {
 /// "key 64 taken, 65 gives 2": in a record, in an entry and as bytes.
 pub fn key_limits(group: &mut Group) {
     let (full, over) = (record(&[0x41; 64]), field_record(65));
-    let mut entries = [[0x91; 70]; 2];
-    entries[0][..66].copy_from_slice(&full);
-    entries[1][..66].copy_from_slice(&over);
+    let entries = [entry(&full), entry(&over)];
     let max = field_record(MAX);
     let long = [0x41; 65];
     case(group, &PIVOT_KEY, &[&full], 0, Answer(64, &[]));

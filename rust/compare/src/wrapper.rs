@@ -1,7 +1,7 @@
 //! The safe wrapper against the reference: it must hand on what the archive answers.
 use crate::call::Hex;
 use crate::group::Group;
-use crate::inputs::{counted, entry, field_record, record, small_keys, MAX, NO_EDGE};
+use crate::inputs::{counted, entry, field_record, record, small_keys, ENTRY_SIZE, MAX, NO_EDGE};
 use std::fmt::Debug;
 
 pub fn same<T: PartialEq + Debug>(
@@ -24,7 +24,7 @@ pub fn keys_and_records(group: &mut Group) {
     let keys = small_keys(3);
     let mut slices: Vec<Vec<u8>> = keys.iter().map(|key| record(key).to_vec()).collect();
     slices.extend([MAX, NO_EDGE, 65].map(|field| field_record(field).to_vec()));
-    slices.extend([0, 65, 67, 70].map(counted));
+    slices.extend([0, 65, 67, ENTRY_SIZE].map(counted));
     for a in &slices {
         let key = joistdenim::pivot_key(a);
         same(group, "pivot_key", &[a], key, reference::pivot_key(a));
@@ -45,7 +45,7 @@ pub fn keys_and_records(group: &mut Group) {
         let Ok(record) = a[..].try_into() else {
             continue;
         };
-        for len in [70, 69, 66] {
+        for len in [ENTRY_SIZE, ENTRY_SIZE - 1, 66] {
             let entry = &entry(record)[..len];
             let key = joistdenim::entry_key(entry);
             same(

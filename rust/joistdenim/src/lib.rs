@@ -3,8 +3,9 @@
 //! A record has 66 bytes: a length field of two bytes, high byte first, and 64 bytes, zero after
 //! the key. Length 0 to 64 is a key, 65,534 "no edge", 65,535 "max". A key or prefix argument is
 //! lent as its bytes alone. A pair, an old prefix and a new one, has 133 bytes; `Pair` is one as a
-//! value. Every call answers `Ok`, or the first refusal that applies over all arguments, and a
-//! refusal changes no byte of a destination.
+//! value. An entry is a record with a key and a number of four bytes, high byte first. Every call
+//! answers `Ok`, or the first refusal that applies over all arguments, and a refusal changes no
+//! byte of a destination.
 //!
 //! ```
 //! let mut dest = [0; 64];
@@ -13,6 +14,7 @@
 //! # Ok::<(), joistdenim::Refusal>(())
 //! ```
 
+mod buckets;
 mod cuts;
 mod keys;
 mod lend;
@@ -24,6 +26,7 @@ mod refusal;
 mod renaming;
 mod tables;
 
+pub use buckets::{translate_bucket, translate_bucket_will_fit};
 pub use cuts::{split_left, split_right, translate_key};
 pub use keys::{change_prefix, compare, entry_key, pivot_key, pivot_lcp, shortest_uncommon_prefix};
 pub use list::list_table;
@@ -46,6 +49,8 @@ pub const RECORD_SIZE: usize = 66;
 pub const MIN_PIVOTS: usize = 2;
 pub const MAX_PIVOTS: usize = 64;
 /// The bytes of an entry: a record with a key, and a number of four bytes.
-pub const ENTRY_SIZE: usize = 70;
+pub const ENTRY_SIZE: usize = RECORD_SIZE + 4;
+/// The most entries of a bucket.
+pub const MAX_ENTRIES: usize = 512;
 /// The bytes of a pair: a flag, two lengths of two bytes, and two prefixes in 64 bytes each.
 pub const PAIR_SIZE: usize = 5 + 2 * MAX_LEN;

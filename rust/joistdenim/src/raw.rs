@@ -3,11 +3,13 @@
 //! Each returns 0 or a refusal's number and answers through its last pointer. The pointers must
 //! not be null and must be good for their lengths, and what is written overlaps nothing else.
 
+mod buckets;
 mod cuts;
 mod list;
 mod pairs;
 mod renaming;
 mod tables;
+pub use buckets::*;
 pub use cuts::*;
 pub use list::*;
 pub use pairs::*;

@@ -42,7 +42,7 @@ impl Refusal {
 
     fn text(self) -> &'static str {
         match self {
-            Refusal::Shape => "a slice isn't the records or the pair it should be",
+            Refusal::Shape => "a slice isn't the records, entries or pair it should be",
             Refusal::Malformed => {
                 "a malformed record or pair, a wrong mark, or a key over 64 bytes"
             }

@@ -59,20 +59,7 @@ pub fn parent_keys_in_child_range(
     child_pivots: &[u8],
     slot: u64,
 ) -> Result<bool, Refusal> {
-    let mut yes = 0;
-    // SAFETY: the slices are good for their lengths, and nothing but `yes` is written.
-    let number = unsafe {
-        raw::jd_parent_keys_in_child_range(
-            parent_pivots.as_ptr(),
-            parent_pivots.len(),
-            parent_edges.as_ptr(),
-            parent_edges.len(),
-            child_pivots.as_ptr(),
-            child_pivots.len(),
-            slot,
-            &mut yes,
-        )
-    };
-    Refusal::check(number)?;
+    let (parent, edges, child) = (parent_pivots, parent_edges, child_pivots);
+    let yes = lend!(raw::jd_parent_keys_in_child_range, parent, edges, child; ; slot)?;
     Ok(yes == 1)
 }

@@ -65,10 +65,7 @@ pub fn pivot_insertable(pivots: &[u8], place: u64, key: &[u8]) -> Result<bool, R
 
 /// The key at a place of the table, a part of it. Refuses 1, 2, 3, 6.
 pub fn get_key(pivots: &[u8], place: u64) -> Result<&[u8], Refusal> {
-    let mut length = 0;
-    // SAFETY: the slice is good for its length, and nothing but `length` is written.
-    let number = unsafe { raw::jd_get_key(pivots.as_ptr(), pivots.len(), place, &mut length) };
-    Refusal::check(number)?;
+    let length = lend!(raw::jd_get_key, pivots; ; place)?;
     Ok(&pivots[place as usize * RECORD_SIZE + KEY_AT..][..length as usize])
 }
 

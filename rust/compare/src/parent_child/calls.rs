@@ -1,5 +1,6 @@
 //! The question of parent and child, in the archive and in the reference.
 use crate::call::{call, Call, Kind};
+use crate::lent::lend;
 use crate::told::yes;
 use joistdenim::raw;
 
@@ -12,15 +13,7 @@ pub static PARENT_KEYS_IN_CHILD_RANGE: Call = Call {
             ("parent_edges", Kind::Edges),
             ("child_pivots", Kind::Child),
         ],
-        |asked, lent| {
-            let [p, e, c] = lent.slices();
-            let (at, slot) = (lent.answer(), asked.place);
-            // SAFETY: `Lent` owns the bytes, each slice is good for its length, and no two
-            // overlap.
-            unsafe {
-                raw::jd_parent_keys_in_child_range(p.at, p.len, e.at, e.len, c.at, c.len, slot, at)
-            }
-        },
+        |asked, lent| lend!(lent, raw::jd_parent_keys_in_child_range, p, e, c; ; asked.place),
         |asked, _, number| {
             let [p, e, c] = asked.all();
             let slot = asked.place;

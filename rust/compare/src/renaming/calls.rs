@@ -5,8 +5,8 @@ use crate::tables::calls::{EDGES, PIVOTS};
 use crate::told::count;
 use joistdenim::raw;
 
-const PREFIX: (&str, Kind) = ("prefix", Kind::Key);
-const NEW_PREFIX: (&str, Kind) = ("new_prefix", Kind::Key);
+pub const PREFIX: (&str, Kind) = ("prefix", Kind::Key);
+pub const NEW_PREFIX: (&str, Kind) = ("new_prefix", Kind::Key);
 
 pub static TRANSLATE_PIVOT_PAIR: Call = Call {
     dests: &["dest"],

@@ -5,7 +5,7 @@ use crate::call::Call;
 use crate::cuts::inputs::{good_table, key_near, spoil, Table};
 use crate::dests::around;
 use crate::group::Group;
-use crate::inputs::{field_record, near, random_bytes, record, Xorshift, MAX};
+use crate::inputs::{field_record, near, new_prefix, record, Xorshift, MAX};
 
 const SEED: u64 = 20_320_627;
 
@@ -22,22 +22,6 @@ fn prefix(random: &mut Xorshift, shared: &[u8]) -> Vec<u8> {
         1 => shared[..random.below(shared.len() + 1)].to_vec(),
         _ => shared.to_vec(),
     }
-}
-
-/// A new prefix in place of `prefix`, so long that the longest of the keys has nearly 64 bytes,
-/// or a few more; some end with FF.
-fn new_prefix(random: &mut Xorshift, prefix: &[u8], longest: usize) -> Vec<u8> {
-    let room = 64 - longest.saturating_sub(prefix.len());
-    let len = match random.below(3) {
-        0 => random.below(room + 1),
-        _ => (room + 2).saturating_sub(random.below(6)),
-    };
-    let mut new = random_bytes(random, len);
-    if random.one_in(4) {
-        let from = random.below(len + 1);
-        new[from..].fill(0xFF);
-    }
-    new
 }
 
 /// The pivots' keys but the last's: what is changed.

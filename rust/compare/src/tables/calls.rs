@@ -120,10 +120,7 @@ pub static GET_KEY: Call = Call {
     ..call(
         "get_key",
         &[PIVOTS],
-        |asked, lent| {
-            let [pivots] = lent.slices();
-            unsafe { raw::jd_get_key(pivots.at, pivots.len, asked.place, lent.answer()) }
-        },
+        |asked, lent| lend!(lent, raw::jd_get_key, pivots; ; asked.place),
         |asked, _, number| {
             let key = reference::get_key(asked.slices[0], asked.place);
             count(key.map(<[u8]>::len), number)
