@@ -2,11 +2,11 @@
  * Each function on single keys from C: a normal case, each of its refusals, and which refusal
  * comes first where two apply. Around every destination stand bytes that must not change. Then a
  * key's way through a table: cuts and translations, whose refusals are in cuts.c. Then pairs,
- * renamed pivots and edges, parent and child, and a table's list; more of these is in pairs.c,
- * renaming.c and list.c.
+ * renamed pivots and edges, parent and child, a bucket, and a table's list; more of these is in
+ * pairs.c, renaming.c, buckets.c and list.c.
  */
+#include "bucket.h"
 #include "pair.h"
-#include "renaming.h"
 
 /* ---- compare */
 
@@ -62,27 +62,18 @@ static void pivot_key_checks(void)
     key_of("pivot_key: 1 before 2", jd_pivot_key, head(wrong, 65), JD_SHAPE, 0);
 }
 
-/* An entry: a record and a number of four bytes. */
-static slice entry(slice r)
-{
-    static uint8_t bytes[JD_ENTRY_SIZE];
-    memset(bytes, 0x91, sizeof bytes);
-    memcpy(bytes, r.bytes, r.length);
-    return (slice){bytes, sizeof bytes};
-}
-
 static void entry_key_checks(void)
 {
-    slice e = entry(key(BYTES("A0")));
+    slice e = entry(key(BYTES("A0")), 1);
     key_of("entry_key: two bytes", jd_entry_key, e, 0, 2);
-    key_of("entry_key: 1, a record alone", jd_entry_key, head(e, 66), JD_SHAPE, 0);
-    key_of("entry_key: 64 bytes", jd_entry_key, entry(key(full)), 0, 64);
-    e = entry(record(65, none));
+    key_of("entry_key: 1, a record alone", jd_entry_key, head(e, JD_RECORD_SIZE), JD_SHAPE, 0);
+    key_of("entry_key: 64 bytes", jd_entry_key, entry(key(full), 1), 0, 64);
+    e = entry(record(65, none), 1);
     key_of("entry_key: 2, field 65", jd_entry_key, e, JD_MALFORMED, 0);
-    key_of("entry_key: 1 before 2", jd_entry_key, head(e, 69), JD_SHAPE, 0);
-    e = entry(record(JD_MAX, none));
+    key_of("entry_key: 1 before 2", jd_entry_key, head(e, JD_ENTRY_SIZE - 1), JD_SHAPE, 0);
+    e = entry(record(JD_MAX, none), 1);
     key_of("entry_key: 2, max", jd_entry_key, e, JD_MALFORMED, 0);
-    e = entry(record(JD_NO_EDGE, none));
+    e = entry(record(JD_NO_EDGE, none), 1);
     key_of("entry_key: 2, no edge", jd_entry_key, e, JD_MALFORMED, 0);
 }
 
@@ -221,6 +212,23 @@ static void shelf_moved(void)
     in_child("parent_keys_in_child_range: 6", t, TABLE(c0, d), 2, JD_NO_SUCH_SLOT, 0);
 }
 
+/* ---- a drawer under another prefix */
+
+static void drawer_renamed(void)
+{
+    slice b = entry(key(BYTES("B")), 1), a0 = entry(key(BYTES("A0")), 2);
+    slice drawer = TABLE(b, a0), renamed_a0 = entry(key(BYTES("C0")), 2);
+    prefixes p = {BYTES("A"), BYTES("C")}, too_long = {BYTES("A"), full};
+    kept("translate_bucket", drawer, p, drawer.length, 0, renamed_a0);
+    kept("translate_bucket: 1", head(drawer, JD_ENTRY_SIZE + 1), p, BUCKET_ROOM, JD_SHAPE, none);
+    kept("translate_bucket: 8", drawer, too_long, BUCKET_ROOM, JD_TOO_LONG, none);
+    kept("translate_bucket: 10", drawer, p, drawer.length - 1, JD_NO_ROOM, none);
+    fits("translate_bucket_will_fit: yes", drawer, p, drawer.length, 0, 1);
+    fits("translate_bucket_will_fit: no", drawer, p, drawer.length - 1, 0, 0);
+    fits("translate_bucket_will_fit: no, too long", drawer, too_long, BUCKET_ROOM, 0, 0);
+    fits("translate_bucket_will_fit: 2", drawer, (prefixes){over, none}, 0, JD_MALFORMED, 0);
+}
+
 /* ---- the list of a table */
 
 static void list_table_checks(void)
@@ -243,6 +251,7 @@ int main(void)
     key_through_t();
     pairs_of_t();
     shelf_moved();
+    drawer_renamed();
     list_table_checks();
     return report();
 }

@@ -10,17 +10,6 @@ static pair t(void)
     return (pair){pivots_of_t(), edges_of_t()};
 }
 
-/* This many bytes of 'C', and these after them. */
-static slice after_c(size_t length, const char *more)
-{
-    static uint8_t keys[8][JD_MAX_LEN];
-    static unsigned next;
-    uint8_t *k = keys[next++ % 8];
-    memset(k, 'C', length);
-    memcpy(k + length, more, strlen(more));
-    return (slice){k, length + strlen(more)};
-}
-
 /* ---- ranges */
 
 /* Two records, into exactly enough, more, and a byte less, where nothing changes. */

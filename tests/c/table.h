@@ -18,13 +18,16 @@ static inline uint8_t *next_table(void)
     return tables[next++ % 64];
 }
 
-/* These records as one slice. */
+/* These records, or entries, as one slice. */
 static inline slice table(const slice *records, size_t count)
 {
     uint8_t *t = next_table();
-    for (size_t i = 0; i < count; i++)
-        memcpy(t + i * JD_RECORD_SIZE, records[i].bytes, JD_RECORD_SIZE);
-    return (slice){t, count * JD_RECORD_SIZE};
+    size_t length = 0;
+    for (size_t i = 0; i < count; i++) {
+        memcpy(t + length, records[i].bytes, records[i].length);
+        length += records[i].length;
+    }
+    return (slice){t, length};
 }
 
 /* This many rising pivots, of one byte each. */
