@@ -9,8 +9,8 @@ pub struct Case {
     pub call: &'static str,
     /// The bytes of each key.
     pub key: usize,
-    /// The pivots of the table; 0 for a call without one.
-    pub pivots: usize,
+    /// The pivots of the table, or the entries kept of the bucket; 0 for a call without either.
+    pub size: usize,
     pub library: Timed,
     pub reference: Timed,
     pub floor: Timed,
@@ -42,7 +42,7 @@ impl Case {
     /// `written` turns the answer into the bytes written to each destination. Both sides must
     /// answer and write the same, or there is nothing to measure.
     pub fn new<const S: usize, const D: usize>(
-        (call, key, pivots): (&'static str, usize, usize),
+        (call, key, size): (&'static str, usize, usize),
         inputs: &[Slices<S>],
         library: impl Fn(&Slices<S>, &mut Dests<D>) -> usize + 'static,
         reference: impl Fn(&Slices<S>, &mut Dests<D>) -> usize + 'static,
@@ -62,7 +62,7 @@ impl Case {
         Case {
             call,
             key,
-            pivots,
+            size,
             library: Timed::new(passes(&inputs, move |i, d| library(&i.slices, d))),
             reference: Timed::new(passes(&inputs, move |i, d| reference(&i.slices, d))),
             floor: Timed::new(passes(&inputs, |i, d| floor(&i.slices, &i.written, d))),

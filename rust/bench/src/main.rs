@@ -1,5 +1,6 @@
 //! Measures the library beside the reference and a floor; `docs/PERFORMANCE.md` says how, and what
 //! came out. Prints ratios, no times. An argument is the number of rounds.
+mod bucket_calls;
 mod case;
 mod floor;
 mod inputs;
@@ -39,6 +40,7 @@ fn main() -> ExitCode {
     let mut cases = key_calls::cases(&mut random);
     cases.extend(pair_calls::cases(&mut random));
     cases.extend(table_calls::cases(&mut random));
+    cases.extend(bucket_calls::cases(&mut random));
     for case in &mut cases {
         case.calibrate();
     }

@@ -1,13 +1,13 @@
 //! The printed tables, in Markdown, so that they can stand in a document as they are.
 use crate::case::Case;
 use crate::timing::{ratio, spread};
-use crate::{key_calls, pair_calls, table_calls};
+use crate::{bucket_calls, key_calls, pair_calls, table_calls};
 
 /// Up to here a ratio is printed as 1.00 or less.
 const EVEN: f64 = 1.005;
 
-fn find<'a>(cases: &'a [Case], call: &str, key: usize, pivots: usize) -> &'a Case {
-    let is_it = |case: &&Case| (case.call, case.key, case.pivots) == (call, key, pivots);
+fn find<'a>(cases: &'a [Case], call: &str, key: usize, size: usize) -> &'a Case {
+    let is_it = |case: &&Case| (case.call, case.key, case.size) == (call, key, size);
     cases.iter().find(is_it).expect("a case that was measured")
 }
 
@@ -17,6 +17,12 @@ fn to_reference(case: &Case) -> f64 {
 
 fn to_floor(case: &Case) -> f64 {
     ratio(&case.library, &case.floor)
+}
+
+/// Both ratios of the three sizes of a case.
+fn both(sizes: [&Case; 3]) -> impl Iterator<Item = f64> {
+    let to_reference = sizes.map(to_reference).into_iter();
+    to_reference.chain(sizes.map(to_floor))
 }
 
 fn row(call: &str, key: usize, numbers: impl IntoIterator<Item = f64>) {
@@ -58,12 +64,30 @@ fn tables(cases: &[Case]) {
         for key in table_calls::KEYS {
             let sizes = table_calls::PIVOTS.map(|pivots| find(cases, call, key, pivots));
             let growth = ratio(&sizes[2].library, &sizes[0].library);
-            let numbers = sizes.map(to_reference).into_iter();
-            row(
-                call,
-                key,
-                numbers.chain(sizes.map(to_floor)).chain([growth]),
-            );
+            row(call, key, both(sizes).chain([growth]));
+        }
+    }
+}
+
+fn buckets(cases: &[Case]) {
+    header(&[
+        "call",
+        "key bytes",
+        "lib/ref, 512 of 512 kept",
+        "256",
+        "0",
+        "lib/floor, 512 of 512 kept",
+        "256",
+        "0",
+    ]);
+    let calls: [(&str, &[usize]); 2] = [
+        ("translate_bucket", &bucket_calls::KEYS),
+        ("translate_bucket_will_fit", &bucket_calls::ASKED_KEYS),
+    ];
+    for (call, keys) in calls {
+        for &key in keys {
+            let sizes = bucket_calls::KEPT.map(|kept| find(cases, call, key, kept));
+            row(call, key, both(sizes));
         }
     }
 }
@@ -98,6 +122,8 @@ pub fn print(cases: &[Case], rounds: usize) {
     tables(cases);
     println!();
     checks(cases);
+    println!();
+    buckets(cases);
     println!();
     let slower = cases
         .iter()
