@@ -18,12 +18,10 @@ static inline void put_entry(uint8_t *at, slice r, unsigned number)
     at[JD_ENTRY_SIZE - 1] = (uint8_t)number;
 }
 
-/* An entry of its own. The last 64 made stand side by side, more than a check uses. */
+/* An entry of its own; it takes the place of a table. */
 static inline slice entry(slice r, unsigned number)
 {
-    static uint8_t entries[64][JD_ENTRY_SIZE];
-    static unsigned next;
-    uint8_t *e = entries[next++ % 64];
+    uint8_t *e = next_table();
     put_entry(e, r, number);
     return (slice){e, JD_ENTRY_SIZE};
 }

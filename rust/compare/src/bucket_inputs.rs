@@ -1,7 +1,7 @@
 //! Buckets to make cases of.
 use crate::inputs::{
-    counted, entry, field_record, near, record, Entry, Record, Xorshift, ENTRY_SIZE, MAX,
-    MAX_ENTRIES, NO_EDGE,
+    byte_after, counted, entry, field_record, near, record, Entry, Record, Xorshift, ENTRY_SIZE,
+    MAX, MAX_ENTRIES, NO_EDGE,
 };
 
 /// An entry whose number tells its place, so that no two of a bucket are alike.
@@ -32,17 +32,10 @@ pub fn with_record(bucket: &[u8], place: usize, record: &Record) -> Vec<u8> {
     changed
 }
 
-/// A record with a byte that isn't zero after its key.
-pub fn byte_after(key: &[u8]) -> Record {
-    let mut wrong = record(key);
-    wrong[65] = 1;
-    wrong
-}
-
 /// Records that may not stand in an entry.
 pub fn wrong_records() -> [Record; 5] {
     let [max, no_edge, long, last] = [MAX, NO_EDGE, 65, 65_533].map(field_record);
-    [max, no_edge, long, last, byte_after(&[0x41])]
+    [max, no_edge, long, last, byte_after(record(&[0x41]))]
 }
 
 /// Good and bad buckets: some refused with 1, some with 2, some taken.

@@ -8,7 +8,7 @@ mod random;
 mod small;
 mod wrapper;
 
-use crate::group::{test, Test};
+use crate::group::{test, Group, Test};
 use crate::lengths;
 use calls::{TRANSLATE_BUCKET, TRANSLATE_BUCKET_WILL_FIT};
 
@@ -37,28 +37,19 @@ pub fn tests() -> Vec<Test> {
     tests
 }
 
-fn random_tests() -> Vec<Test> {
-    vec![
-        test("buckets: any ones, random", |group| {
-            random::any(group, 40_000)
-        }),
-        test("buckets: small ones, random", |group| {
-            random::small(group, 10_000)
-        }),
-        test("buckets: large ones, random", |group| {
-            random::large(group, 2_000)
-        }),
-        test("law: a bucket will fit", |group| {
-            laws::will_fit(group, 4_000)
-        }),
-        test("law: a bucket renamed and back", |group| {
-            laws::and_back(group, 4_000)
-        }),
-        test("law: a rising bucket stays rising", |group| {
-            laws::rising(group, 4_000)
-        }),
-        test("law: a bucket key by key", |group| {
-            laws::each_key(group, 4_000)
-        }),
-    ]
+type Body = fn(&mut Group, usize);
+
+/// So many random cases each.
+fn random_tests() -> impl Iterator<Item = Test> {
+    let bodies: [(&str, Body, usize); 7] = [
+        ("buckets: any ones, random", random::any, 40_000),
+        ("buckets: small ones, random", random::small, 10_000),
+        ("buckets: large ones, random", random::large, 2_000),
+        ("law: a bucket will fit", laws::will_fit, 4_000),
+        ("law: a bucket renamed and back", laws::and_back, 4_000),
+        ("law: a rising bucket stays rising", laws::rising, 4_000),
+        ("law: a bucket key by key", laws::each_key, 4_000),
+    ];
+    let bodies = bodies.into_iter();
+    bodies.map(|(name, body, count)| test(name, move |group| body(group, count)))
 }

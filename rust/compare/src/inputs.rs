@@ -41,6 +41,12 @@ pub fn field_record(field: u16) -> Record {
     record
 }
 
+/// The record with a byte that isn't zero after its key.
+pub fn byte_after(mut record: Record) -> Record {
+    record[65] = 1;
+    record
+}
+
 /// An entry with this record and a number without a zero byte.
 pub fn entry(record: &Record) -> Entry {
     let mut entry = [0x91; ENTRY_SIZE];

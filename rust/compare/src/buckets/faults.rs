@@ -1,7 +1,7 @@
 //! Large buckets with one fault: a wrong count, and a wrong record at each place; and every length
 //! field in an entry.
 use super::dests::{around, both};
-use crate::bucket_inputs::{bucket_of, byte_after, with_record, wrong_records};
+use crate::bucket_inputs::{bucket_of, with_record, wrong_records};
 use crate::group::Group;
 use crate::inputs::{field_record, record, Record, ENTRY_SIZE, MAX_ENTRIES};
 
@@ -79,6 +79,4 @@ pub fn every_byte(group: &mut Group) {
             both(group, [&bucket, &[], &[]], bucket.len());
         }
     }
-    let wrong = with_record(&two, 0, &byte_after(&[0x41, 0x30]));
-    both(group, [&wrong, &[0x41], &[0x43]], wrong.len());
 }

@@ -3,7 +3,7 @@
 use crate::asked::{Asked, MOST_DESTS};
 use crate::call::{Call, Kind};
 use crate::group::Group;
-use crate::inputs::{field_record, record, MAX, NO_EDGE};
+use crate::inputs::{byte_after, field_record, record, MAX, NO_EDGE};
 use crate::lengths::{choices, usual};
 use crate::table_inputs::{absent, rising, table, with};
 
@@ -59,15 +59,15 @@ pub fn each_place(group: &mut Group, call: &Call) {
 pub fn each_fault(mut body: impl FnMut(Vec<u8>)) {
     for count in [2, 3, 64] {
         let good = rising(count);
+        let one = |place| good.as_chunks().0[place];
         for place in 0..count {
-            let before = &good[place.saturating_sub(1) * 66..][..66];
             let longer = [&[0x41, 3 * place as u8][..], &[0xFF; 62]].concat();
             let others = [
                 field_record(MAX),
                 field_record(NO_EDGE),
                 field_record(65),
-                spoiled(&good[place * 66..][..66]),
-                before.try_into().expect("a record"),
+                byte_after(one(place)),
+                one(place.saturating_sub(1)),
                 record(&[]),
                 record(&longer),
             ];
@@ -76,13 +76,6 @@ pub fn each_fault(mut body: impl FnMut(Vec<u8>)) {
             }
         }
     }
-}
-
-/// The record with a byte after its key.
-fn spoiled(good: &[u8]) -> [u8; 66] {
-    let mut bad: [u8; 66] = good.try_into().expect("a record");
-    bad[65] = 1;
-    bad
 }
 
 /// Every edge of 63 in turn, over pivots that share a prefix and over pivots that share none, in
