@@ -1,6 +1,7 @@
 // Scans over lent bytes. Nothing is written, and no public function has a `requires`.
 mod words;
 
+use words::begins_by_words;
 use words::equal_half;
 use words::equal_words;
 use words::zero_half;
@@ -81,5 +82,11 @@ pub fn zero_from(a: &[u8], from: usize) -> bool
 pub fn is_prefix(p: &[u8], k: &[u8]) -> bool
     ensures { λ r. ⌜ r ≡ IsPrefix (now (p .entry)) (now (k .entry)) ⌝ }
 {
-    common_run(p, k) == p.len()
+    if k.len() < p.len() {
+        return false;
+    }
+    if p.len() < 8 {
+        return common_run(p, k) == p.len();
+    }
+    begins_by_words(p, k)
 }

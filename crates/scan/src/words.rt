@@ -2,7 +2,7 @@
 ghost use mathlib.Core.Path.{_≡_};
 ghost use Prim.Native.Nat.{_+_, _≤_, _<_};
 ghost use lib.ListN.{length, drop};
-ghost use Rattle.model.specs.keys.Key.{commonRun};
+ghost use Rattle.model.specs.keys.Key.{IsPrefix, commonRun};
 ghost use Rattle.model.specs.records.Record.{allZero};
 ghost use Rattle.scan.specs.Word.{wordOf};
 
@@ -94,4 +94,20 @@ pub(crate) fn zero_half(a: &[u8], i: usize) -> usize
         return i;
     }
     i + 4
+}
+
+// Whether k begins with p, by words. The last word ends where p does, and may look again at bytes of the one before it.
+pub(crate) fn begins_by_words(p: &[u8], k: &[u8]) -> bool
+    requires { ⌜ (8 ≤ length (now p)) × (length (now p) ≤ length (now k)) ⌝ }
+    ensures { λ r. ⌜ r ≡ IsPrefix (now (p .entry)) (now (k .entry)) ⌝ }
+{
+    let last = p.len() - 8;
+    let mut i = 0;
+    while i < last {
+        if word_at(p, i) != word_at(k, i) {
+            return false;
+        }
+        i += 8;
+    }
+    word_at(p, last) == word_at(k, last)
 }
