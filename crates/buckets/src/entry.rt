@@ -34,5 +34,5 @@ pub(crate) fn begins_with(entry: &[u8], prefix: &[u8]) -> bool
     requires { ⌜ recordSize ≤ length (now entry) ⌝ }
     ensures { λ r. ⌜ r ≡ IsPrefix (now (prefix .entry)) (entryOf (now (entry .entry)) .key) ⌝ }
 {
-    scan::is_prefix(prefix, key_of(entry))
+    scan::is_prefix_by_words(prefix, key_of(entry))
 }

@@ -14,6 +14,7 @@ ghost use Rattle.model.specs.keys.Key.{IsPrefix, maxLen};
 ghost use Rattle.model.specs.records.Record.{recordSize, recordOf};
 ghost use Rattle.model.specs.tables.Tables.{all};
 ghost use Rattle.model.specs.buckets.Bucket.{entrySize, entryOf, encodeEntry, encodeBucket, translateEntry};
+ghost use Rattle.model.specs.inner.Written.{into};
 ghost use Rattle.model.specs.calls.Refusals.{first, over};
 ghost use Rattle.model.specs.calls.BucketCalls.{shortEntry, newBucket, translateBucketCauses};
 ghost use Rattle.buckets.specs.Kept.{Checked, keptOf, keptBytes};
@@ -31,13 +32,22 @@ fn put_blank(n: u8, dest: &mut [u8])
     dest[1] = n;
 }
 
-// Writes the record of a key, that is one part and then another, to the head of dest.
+// Writes one part and then another to the head of dest, as far as there is room.
+fn put_parts(first: &[u8], rest: &[u8], dest: &mut [u8])
+    ensures { λ _. ⌜ now (dest .exit) ≡ into (now (first .entry) ++ now (rest .entry)) (now (dest .entry)) ⌝ }
+{
+    let n = scan::least(first.len(), dest.len());
+    records::copy_by_blocks(first, dest);
+    records::copy_by_blocks(rest, &mut dest[n..]);
+}
+
+// Writes the record of a key in two parts to the head of dest.
 fn put_key(first: &[u8], rest: &[u8], dest: &mut [u8])
     requires { ⌜ (length (now first) + length (now rest) ≤ maxLen) × (recordSize ≤ length (now dest)) ⌝ }
     ensures { λ _. ⌜ now (dest .exit) ≡ over (recordOf (length (now (first .entry) ++ now (rest .entry))) (now (first .entry) ++ now (rest .entry))) (now (dest .entry)) ⌝ }
 {
     put_blank((first.len() + rest.len()) as u8, dest);
-    records::join(first, rest, &mut dest[2..]);
+    put_parts(first, rest, &mut dest[2..]);
 }
 
 // Writes the translation of an entry whose key begins with the prefix to the head of dest.

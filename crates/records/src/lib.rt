@@ -1,7 +1,9 @@
 // Records of 66 bytes: what they say, and how they are written. No public function has a `requires`.
+mod blocks;
 mod read;
 mod write;
 
+pub use blocks::copy_by_blocks;
 pub use read::field_reading;
 pub use read::holds;
 pub use read::holds_edge;

@@ -82,6 +82,13 @@ pub fn zero_from(a: &[u8], from: usize) -> bool
 pub fn is_prefix(p: &[u8], k: &[u8]) -> bool
     ensures { λ r. ⌜ r ≡ IsPrefix (now (p .entry)) (now (k .entry)) ⌝ }
 {
+    common_run(p, k) == p.len()
+}
+
+// The same by words, for a prefix that is tested against many keys. For one key `is_prefix` is as quick, and smaller.
+pub fn is_prefix_by_words(p: &[u8], k: &[u8]) -> bool
+    ensures { λ r. ⌜ r ≡ IsPrefix (now (p .entry)) (now (k .entry)) ⌝ }
+{
     if k.len() < p.len() {
         return false;
     }

@@ -1,27 +1,16 @@
 -- `scan::is_prefix` meets its contract.
 use Rattle.scan.proofs.Scan.{prefix-run}
-use Rattle.scan.proofs.Beginning.{shorter}
 use borrow.Author.Needs.{needs}
 use Rattle.scan.proofs.is_prefix.Statement.{statement}
 use Rattle.scan.proofs.is_prefix.Tie as tie
 
-ruleset rules = (needs, shorter, prefix-run)
-
-returns : tie.Need-returns
-returns c = search rules
+ruleset rules = (needs, prefix-run)
 
 common-run-requires : tie.Need-common-run-requires
 common-run-requires c κs = search rules
 
-returns-2 : tie.Need-returns-2
-returns-2 c = search rules
-
-begins-by-words-requires : tie.Need-begins-by-words-requires
-begins-by-words-requires c κs = search rules
-
-returns-3 : tie.Need-returns-3
-returns-3 c = search rules
+returns : tie.Need-returns
+returns c = search rules
 
 pub is-prefix-spec : {M : Type 1} → statement M
-is-prefix-spec =
-    tie.close (tie.spec returns common-run-requires returns-2 begins-by-words-requires returns-3)
+is-prefix-spec = tie.close (tie.spec common-run-requires returns)

@@ -15,17 +15,17 @@ cast-put-blank c = search rules
 put-blank-requires : tie.Need-put-blank-requires
 put-blank-requires c κs = search rules
 
-sub-join : tie.Need-sub-join
-sub-join c = search rules
+sub-put-parts : tie.Need-sub-put-parts
+sub-put-parts c = search rules
 
-part-join-start : tie.Need-part-join-start
-part-join-start c = search rules
+part-put-parts-start : tie.Need-part-put-parts-start
+part-put-parts-start c = search rules
 
-part-join-end : tie.Need-part-join-end
-part-join-end c = search rules
+part-put-parts-end : tie.Need-part-put-parts-end
+part-put-parts-end c = search rules
 
-join-requires : tie.Need-join-requires
-join-requires c κs = search rules
+put-parts-requires : tie.Need-put-parts-requires
+put-parts-requires c κs = search rules
 
 same-length : tie.Need-same-length
 same-length c = search rules
@@ -40,9 +40,9 @@ put-key-spec =
     add-put-blank
     cast-put-blank
     put-blank-requires
-    sub-join
-    part-join-start
-    part-join-end
-    join-requires
+    sub-put-parts
+    part-put-parts-start
+    part-put-parts-end
+    put-parts-requires
     same-length
     returns)
