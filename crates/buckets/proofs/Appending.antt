@@ -1,7 +1,7 @@
 -- The pass over entries that writes them: what is left to write, put after what stands, gives the whole.
 use mathlib.Core.Path.{_≡_, refl, sym, ap, _∙_}
-use mathlib.Core.Bool.{Bool, true, false, not, _&&_}
-use mathlib.Core.List.{List, [], _∷_, _++_, map, append-assoc}
+use mathlib.Core.Bool.{true, false}
+use mathlib.Core.List.{List, [], _∷_, _++_, append-assoc}
 use mathlib.Core.Logic.{⊎-elim}
 use mathlib.Core.Option.{none}
 use Prim.Native.Nat.{ℕ, _+_, _*_, _-_, _/_, _≤_, _<_}
@@ -17,8 +17,8 @@ use Rattle.model.specs.declared.Answer.the-variants.{Value, Refused}
 use Rattle.model.specs.keys.Key.{Key}
 use Rattle.model.specs.records.Record.{joined}
 use Rattle.model.specs.tables.Tables.{all}
-use Rattle.model.specs.buckets.Bucket.{Bucket, entrySize, maxEntries, entries, encodeEntry, encodeBucket}
-use Rattle.model.specs.calls.Refusals.{_⇒_, first, over}
+use Rattle.model.specs.buckets.Bucket.{Bucket, entrySize, entries, encodeEntry, encodeBucket}
+use Rattle.model.specs.calls.Refusals.{first, over}
 use Rattle.model.specs.calls.BucketCalls.{newBucket, shortEntry, neededBytes, bucketLong, bucketFull, renameCauses, translateBucketCauses, translateBucketAnswer}
 use Rattle.model.proofs.Lists.{rest, lent-on, over-append, length-over, all-append, le-or-lt}
 use Rattle.model.proofs.keys.Key.{both}
@@ -28,7 +28,6 @@ use Rattle.model.proofs.buckets.Bucket.{translated-wft}
 use Rattle.model.proofs.calls.Refusals.{passed, none-here, none-later, none-before, none-after}
 use Rattle.model.proofs.calls.BucketCalls.{bucket-most, bucket-sized, renamed-reads, renamed-passes}
 use Rattle.buckets.specs.Kept.{entryAt, Checked, Good, keptOf, keptBytes}
-use Rattle.buckets.proofs.Places.{length-entries}
 use Rattle.buckets.proofs.Measuring.{left, left-over, left-next, entry-checked, kept-most}
 
 -- the bytes of entries and then of others are those of all

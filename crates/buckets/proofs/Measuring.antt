@@ -1,12 +1,11 @@
 -- The pass over entries that measures them: what is known of the renamed bucket by what is left of it.
-use mathlib.Core.Path.{_≡_, refl, sym, ap, _∙_}
-use mathlib.Core.Bool.{Bool, true, false, not, _&&_}
+use mathlib.Core.Path.{_≡_, refl, ap, _∙_}
+use mathlib.Core.Bool.{Bool, true, false, _&&_}
 use mathlib.Core.List.{List, [], _∷_, _++_}
-use mathlib.Core.Option.{none, some}
 use Prim.Native.Nat.{ℕ, suc, _+_, _/_, _≤_, _<_}
 use native.Mathlib.Numerals.{add-one}
 use native.Mathlib.Omega.{arith}
-use borrow.Author.Tests.{not-false, not-true, ltb-false}
+use borrow.Author.Tests.{not-false, ltb-false}
 use lib.ListN.{length, drop, length-append, drop-of-length-le}
 use lib.Seq.{drop-cons}
 use mir.Syntax.{w64}
@@ -19,13 +18,13 @@ use Rattle.model.specs.keys.Key.{Key, maxLen, tooLong}
 use Rattle.model.specs.records.Record.{reading, keyReading}
 use Rattle.model.specs.tables.Tables.{all}
 use Rattle.model.specs.buckets.Bucket.{Bucket, entrySize, maxEntries, entryRecord, entryOf, entryBytes, entries, TranslateBucket}
-use Rattle.model.specs.calls.Refusals.{_⇒_, outcome, first, answer}
+use Rattle.model.specs.calls.Refusals.{outcome, answer}
 use Rattle.model.specs.calls.BucketCalls.{entriesRead, newBucket, shortEntry}
 use Rattle.model.proofs.Lists.{getD-map, all-append, all-inside}
 use Rattle.model.proofs.buckets.Renamed.{renamed-append}
 use Rattle.model.proofs.buckets.Bucket.{translated-wft}
 use Rattle.model.proofs.calls.BucketCalls.{bucket-read, bucket-most, bucket-wrong}
-use Rattle.model.proofs.calls.Refusals.{accepted, value-is, refused, refused-by, passed, none-here}
+use Rattle.model.proofs.calls.Refusals.{accepted, value-is, none-here}
 use Rattle.model.proofs.calls.TableCalls.{either-fails}
 use Rattle.buckets.specs.Kept.{entryAt, Checked, Good, keptOf, longCauses}
 use Rattle.buckets.proofs.Places.{length-entryBytes, length-entries, entry-size}

@@ -7,9 +7,9 @@ use native.Mathlib.Nat.{add-sub-cancel-left}
 use native.Mathlib.Omega.{arith}
 use lib.ListN.{length, take, drop, length-drop, length-map, List·getD-eq-default}
 use lib.Seq.{length-take-le}
-use Rattle.model.specs.keys.Key.{Key, IsPrefix}
+use Rattle.model.specs.keys.Key.{IsPrefix}
 use Rattle.model.specs.records.Record.{recordSize, keyBytes}
-use Rattle.model.specs.buckets.Bucket.{entrySize, entryRecord, entryOf, entryBytes, entries}
+use Rattle.model.specs.buckets.Bucket.{entrySize, entryOf, entryBytes, entries}
 use Rattle.model.proofs.records.Records.{length-pieces, piece-at}
 use Rattle.buckets.specs.Kept.{entryAt, Checked}
 

@@ -1,9 +1,9 @@
 -- The causes of a renaming by what its steps answer: the check, the measure, and the room.
-use mathlib.Core.Path.{_≡_, refl, sym, ap, _∙_}
+use mathlib.Core.Path.{_≡_, refl, sym, ap}
 use mathlib.Core.Bool.{Bool, true, false, not, _||_}
-use mathlib.Core.List.{List, [], _∷_, _++_}
+use mathlib.Core.List.{List, [], _∷_}
 use mathlib.Core.Option.{none, some}
-use Prim.Native.Nat.{ℕ, _*_, _/_, _≤_, _<_}
+use Prim.Native.Nat.{ℕ, _/_, _≤_, _<_}
 use native.Mathlib.Omega.{arith}
 use borrow.Author.Tests.{lt-ltb, le-ltb}
 use lib.ListN.{length}
@@ -15,8 +15,8 @@ use Rattle.model.specs.declared.Decided.{Decided}
 use Rattle.model.specs.declared.Decided.the-variants.{Yes, No}
 use Rattle.model.specs.declared.Decided.the-variants as decided
 use Rattle.model.specs.keys.Key.{Key, tooLong}
-use Rattle.model.specs.buckets.Bucket.{entrySize, entries, encodeBucket}
-use Rattle.model.specs.calls.Refusals.{Cause, _⇒_, outcome, first, answer, yesOrNo, over}
+use Rattle.model.specs.buckets.Bucket.{entrySize, encodeBucket}
+use Rattle.model.specs.calls.Refusals.{_⇒_, outcome, first, answer, yesOrNo, over}
 use Rattle.model.specs.calls.BucketCalls.{bucketCauses, newBucket, neededBytes, bucketLong, bucketFull, renameCauses, translateBucketCauses, translateBucketAnswer, translateBucketLeaves, willFitAnswer}
 use Rattle.model.proofs.calls.Refusals.{here, later, after, accepted, value-is, refused, refused-by, refused-first, passed, none-here}
 use Rattle.model.proofs.calls.BucketCalls.{bucket-count, bucket-whole}

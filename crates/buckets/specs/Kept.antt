@@ -3,10 +3,10 @@ use mathlib.Core.Path.{_≡_}
 use mathlib.Core.Bool.{true, not}
 use mathlib.Core.List.{List, [], _∷_}
 use mathlib.Core.Option.{none}
-use Prim.Native.Nat.{ℕ, _≤_}
+use Prim.Native.Nat.{ℕ}
 use lib.ListN.{length, getD}
 use Rattle.model.specs.declared.Refusal.the-variants.{TooLong}
-use Rattle.model.specs.keys.Key.{Key, maxLen}
+use Rattle.model.specs.keys.Key.{Key}
 use Rattle.model.specs.records.Record.{reading, keyReading}
 use Rattle.model.specs.tables.Tables.{all}
 use Rattle.model.specs.buckets.Bucket.{Bucket, entrySize, entryRecord, entryOf, entryBytes, encodeBucket, TranslateBucket}

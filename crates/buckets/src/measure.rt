@@ -10,7 +10,7 @@ ghost use mathlib.Core.Path.{_≡_};
 ghost use Prim.Native.Nat.{_≤_};
 ghost use lib.ListN.{length};
 ghost use Rattle.model.specs.calls.Refusals.{answer};
-ghost use Rattle.model.specs.calls.BucketCalls.{newBucket, neededBytes};
+ghost use Rattle.model.specs.calls.BucketCalls.{newBucket};
 ghost use Rattle.buckets.specs.Kept.{Checked, Good, keptOf, longCauses};
 
 // Cause 8 of one entry; else 1 where it is kept, and 0 where its key doesn't begin with the prefix.
