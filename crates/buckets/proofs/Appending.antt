@@ -50,7 +50,7 @@ then-written a k r t =
 -- ---- none of the call's causes applies
 
 module _ (l : List ℕ) (p q : Key) (d₀ : List ℕ) (h : first (translateBucketCauses l p q d₀) ≡ none) where
-  pub all-good : Good l p q
+  all-good : Good l p q
   all-good = none-before (renameCauses l p q) _ h
 
   short : all shortEntry (newBucket l p q) ≡ true
@@ -88,9 +88,11 @@ pub record Written (l : List ℕ) (p q : Key) (d₀ d : List ℕ) (i at : ℕ) :
   pub bytes : take at d ++ over (encodeBucket (left l p q i)) (drop at d) ≡ over (encodeBucket (newBucket l p q)) d₀
 
 module _ (l : List ℕ) (p q : Key) (d₀ : List ℕ) (kept : ℕ) (h : first (translateBucketCauses l p q d₀) ≡ none) (k : kept ≡ length (newBucket l p q)) where
+  -- the end is a number of the code
   pub end-fits : Fits w64 (kept * entrySize)
   end-fits = record { fits = omega (arith, kept-most l p q (all-good l p q d₀ h)) }
 
+  -- at the start all is left
   pub put-start : Written l p q d₀ d₀ 0 0
   put-start = record { long = refl; short = short l p q d₀ h; ends = omega arith; bytes = refl }
 
@@ -109,21 +111,23 @@ module _ (l : List ℕ) (p q : Key) (d₀ : List ℕ) (kept : ℕ) (h : first (t
 
     module _ (o : at < kept * entrySize) where
       -- before it there is an entry
-      pub put-place : i < length l / entrySize
+      put-place : i < length l / entrySize
       unfolding encodeBucket joined
       put-place = ⊎-elim past (λ (j : i < length l / entrySize). j) (le-or-lt (length l / entrySize) i)
         where
           past : length l / entrySize ≤ i → i < length l / entrySize
           past j = absurd (omega (arith, rw (left-over l p q i j) at (w .ends), whole-length l p q d₀ h))
 
+      -- the next place is a number of the code
       pub place-fits : Fits w64 (i + 1)
       place-fits = record { fits = omega (arith, put-place, bucket-most _ l (all-good l p q d₀ h)) }
 
+      -- from there on fewer are left
       pub fewer-left : length l / entrySize - (i + 1) < length l / entrySize - i
       fewer-left = omega (arith, put-place)
 
       module _ (e : List ℕ) (g : e ≡ entryAt l i) where
-        -- that is checked and, where it is kept, short
+        -- that is checked
         pub put-checked : Checked e
         put-checked = entry-checked l p q (all-good l p q d₀ h) i e put-place g
 
@@ -133,6 +137,7 @@ module _ (l : List ℕ) (p q : Key) (d₀ : List ℕ) (kept : ℕ) (h : first (t
         here-short : (all shortEntry (keptOf e p q) ≡ true) × (all shortEntry (left l p q (i + 1)) ≡ true)
         here-short = both _ _ (sym (all-append shortEntry (keptOf e p q) (left l p q (i + 1))) ∙ rw (← here-left) (w .short))
 
+        -- short where it is kept
         pub put-short : all shortEntry (keptOf e p q) ≡ true
         put-short = here-short .0
 
@@ -147,9 +152,11 @@ module _ (l : List ℕ) (p q : Key) (d₀ : List ℕ) (kept : ℕ) (h : first (t
         put-room = rw (rest, length-drop) (omega (arith, here-ends, w .long, whole-room l p q d₀ h))
 
         module _ (n : ℕ) (c : n ≡ length (keptBytes e p q)) where
+          -- the place after it is a number of the code
           pub at-fits : Fits w64 (at + n)
           at-fits = record { fits = omega (arith, here-ends, whole-length l p q d₀ h, kept-most l p q (all-good l p q d₀ h)) }
 
+          -- it is written there, and the others are left
           pub put-turn : (v : List ℕ) → v ≡ over (keptBytes e p q) (take (length d - at) (drop at d))
               → Written l p q d₀ (putMid at (length d - at) d v) (i + 1) (at + n)
           put-turn v f =

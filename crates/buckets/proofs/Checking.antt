@@ -16,6 +16,7 @@ use Rattle.buckets.specs.Kept.{entryAt}
 use Rattle.buckets.proofs.Places.{length-entryBytes}
 
 module _ (l : List ℕ) (i : ℕ) (w : entriesRead (entryBytes l) ≡ entriesRead (drop i (entryBytes l))) where
+  -- at the end all are read
   pub read-over : length l / entrySize ≤ i → true ≡ entriesRead (entryBytes l)
   unfolding entriesRead all
   read-over h =
@@ -27,8 +28,10 @@ module _ (l : List ℕ) (i : ℕ) (w : entriesRead (entryBytes l) ≡ entriesRea
     unfolding entriesRead all
     here-read = rw (g, f) (w ∙ rw (drop-cons (entryBytes l) i [] (omega (arith, length-entryBytes l)), add-one))
 
+    -- one that isn't a key's makes the answer
     pub not-read : not t ≡ true → false ≡ entriesRead (entryBytes l)
     not-read k = sym (rw (not-true t k) at here-read)
 
+    -- else those after it do
     pub next-read : not t ≡ false → entriesRead (entryBytes l) ≡ entriesRead (drop (i + 1) (entryBytes l))
     next-read k = rw (not-false t k) at here-read

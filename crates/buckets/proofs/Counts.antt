@@ -13,10 +13,12 @@ use Rattle.model.specs.calls.BucketCalls.{notEntryCount}
 use Rattle.model.proofs.Lists.{le-or-lt}
 
 module _ (l : List ℕ) where
+  -- bytes are left over
   pub not-whole : (length l % entrySize ≡ 0 → ⊥) → true ≡ notEntryCount l
   unfolding notEntryCount
   not-whole h = rw (ne-eqb (length l % entrySize) 0 h)
 
+  -- or there are more entries than a bucket may have
   pub too-many : length l % entrySize ≡ 0 → ltb maxEntries (length l / entrySize) ≡ notEntryCount l
   unfolding notEntryCount
   too-many h = rw h (⊎-elim few many (le-or-lt (length l / entrySize) maxEntries))
@@ -28,9 +30,11 @@ module _ (l : List ℕ) where
       many k = rw (lt-ltb maxEntries (length l / entrySize) k, lt-leb (length l / entrySize) maxEntries k)
 
 module _ (p q : Key) where
+  -- the prefix has more than 64 bytes
   pub long-prefix : maxLen < length p → true ≡ (tooLong p || tooLong q)
   long-prefix h = rw (lt-ltb maxLen (length p) h)
 
+  -- or the new one has
   pub long-new : length p ≤ maxLen → tooLong q ≡ (tooLong p || tooLong q)
   long-new h = rw (le-ltb maxLen (length p) h)
 

@@ -81,10 +81,12 @@ pub record Measured (l : List ℕ) (p q : Key) (i kept : ℕ) : Type 0 where
   pub short : all shortEntry (newBucket l p q) ≡ all shortEntry (left l p q i)
 
 module _ (l : List ℕ) (p q : Key) where
+  -- at the start nothing is passed
   pub measure-start : Measured l p q 0 0
   measure-start = record { within = omega arith; counted = omega arith; short = refl }
 
   module _ (i kept : ℕ) (w : Measured l p q i kept) where
+    -- at the end the count is the answer
     pub measure-end : length l / entrySize ≤ i → Value kept ≡ answer (longCauses (newBucket l p q)) (length (newBucket l p q))
     unfolding outcome all
     measure-end h =
@@ -118,9 +120,11 @@ module _ (l : List ℕ) (p q : Key) where
         all-short : all shortEntry (keptOf e p q) ≡ true
         all-short = not-false _ (none-here _ TooLong [] (accepted (longCauses (keptOf e p q)) _ a f n k))
 
+        -- the new count is a number of the code
         pub kept-fits : Good l p q → Fits w64 (kept + n)
         kept-fits o = record { fits = omega (arith, counts, here-counted, kept-most l p q o) }
 
+        -- one that isn't too long is counted where it is kept
         pub measure-turn : Measured l p q (i + 1) (kept + n)
         measure-turn =
             record {

@@ -21,11 +21,11 @@ use Rattle.model.proofs.buckets.Entries.{sizedEntry, sized, entry-sized, length
 use Rattle.buckets.specs.Kept.{Checked, keptOf, keptBytes, longCauses}
 
 -- the key of a checked entry has at most 64 bytes
-pub key-short : (e : List ℕ) → Checked e → length (entryOf e .key) ≤ maxLen
+key-short : (e : List ℕ) → Checked e → length (entryOf e .key) ≤ maxLen
 key-short e w = sized (entryOf e) (entry-sized e (w .size) (w .reads)) .0
 
 module _ (e : List ℕ) (p q : Key) (t : Bool) (g : t ≡ IsPrefix p (entryOf e .key)) where
-  pub kept-is : keptOf e p q ≡ cond t (translateEntry p q (entryOf e) ∷ []) []
+  kept-is : keptOf e p q ≡ cond t (translateEntry p q (entryOf e) ∷ []) []
   unfolding keptOf TranslateBucket
   kept-is = rw g
 
@@ -35,43 +35,50 @@ module _ (e : List ℕ) (p q : Key) (t : Bool) (g : t ≡ IsPrefix p (entryOf e 
   none-counted h = rw (kept-is, not-true t h)
 
   module _ (h : not t ≡ false) where
+    -- with it, its key begins so
     pub begins : IsPrefix p (entryOf e .key) ≡ true
     begins = sym g ∙ not-false t h
 
-    -- with it, one entry
+    -- and it leaves one entry
     one-is : keptOf e p q ≡ translateEntry p q (entryOf e) ∷ []
     one-is = kept-is ∙ rw (not-false t h)
 
     module _ (k : Key) (f : k ≡ entryOf e .key) where
-      -- whose key is longer than the prefix
+      -- whose key is no shorter than the prefix
       pub beyond-prefix : length p ≤ length k
       beyond-prefix = rw f (prefix-length p (entryOf e .key) begins)
 
-      pub changed-fits : Checked e → length q ≤ 64 → Fits w64 (length q + (length k - length p))
-      changed-fits w j = let x : length k ≤ 64 = rw f (key-short e w) in record { fits = omega arith }
+      -- the length of its changed key is a number of the code
+      pub changed-fits : Checked e → length q ≤ maxLen → Fits w64 (length q + (length k - length p))
+      changed-fits w j = let x : length k ≤ maxLen = rw f (key-short e w) in record { fits = omega arith }
 
       changed-length : length (changePrefix p q (entryOf e .key)) ≡ length q + (length k - length p)
       changed-length = rw f (length-change p q (entryOf e .key))
 
-      pub long-refused : 64 < length q + (length k - length p) → Refused TooLong ≡ answer (longCauses (keptOf e p q)) (length (keptOf e p q))
+      -- more than 64 bytes are refused
+      pub long-refused : maxLen < length q + (length k - length p) → Refused TooLong ≡ answer (longCauses (keptOf e p q)) (length (keptOf e p q))
       unfolding outcome all
       long-refused j = rw (one-is, lt-leb (length (changePrefix p q (entryOf e .key))) maxLen (omega (arith, changed-length)))
 
-      pub one-counted : length q + (length k - length p) ≤ 64 → Value 1 ≡ answer (longCauses (keptOf e p q)) (length (keptOf e p q))
+      -- at most 64 are counted
+      pub one-counted : length q + (length k - length p) ≤ maxLen → Value 1 ≡ answer (longCauses (keptOf e p q)) (length (keptOf e p q))
       unfolding outcome all
       one-counted j = rw (one-is, le-leb (length (changePrefix p q (entryOf e .key))) maxLen (omega (arith, changed-length)))
 
   -- ---- as bytes
 
+  -- what leaves nothing has no bytes
   pub none-long : not t ≡ true → 0 ≡ length (keptBytes e p q)
   unfolding encodeBucket joined
   none-long h = rw (kept-is, not-true t h)
 
+  -- and changes none
   pub none-written : (d : List ℕ) → not t ≡ true → d ≡ over (keptBytes e p q) d
   unfolding encodeBucket joined over
   none-written d h = rw (kept-is, not-true t h)
 
   module _ (h : not t ≡ false) (s : all shortEntry (keptOf e p q) ≡ true) where
+    -- a kept entry that is measured is short
     pub one-short : shortEntry (translateEntry p q (entryOf e)) ≡ true
     unfolding all
     one-short = both (shortEntry (translateEntry p q (entryOf e))) true (rw (one-is h) at s) .0
@@ -81,14 +88,17 @@ module _ (e : List ℕ) (p q : Key) (t : Bool) (g : t ≡ IsPrefix p (entryOf e 
     one-bytes = rw (one-is h) (append-nil (encodeEntry (translateEntry p q (entryOf e))))
 
     module _ (w : Checked e) where
+      -- it has the bytes of an entry
       pub one-long : entrySize ≡ length (keptBytes e p q)
       one-long =
           let n = sized (entryOf e) (entry-sized e (w .size) (w .reads)) .1 in
           let z : sizedEntry (translateEntry p q (entryOf e)) ≡ true = rw (one-short, n) in
           rw one-bytes (sym (length-entry (translateEntry p q (entryOf e)) z))
 
+      -- and room where these have
       pub one-room : (d : List ℕ) → length (keptBytes e p q) ≤ length d → entrySize ≤ length d
       one-room d r = omega (arith, one-long)
 
+    -- its translation is what it leaves
     pub one-written : (d v : List ℕ) → v ≡ over (encodeEntry (translateEntry p q (entryOf e))) d → v ≡ over (keptBytes e p q) d
     one-written d v r = rw one-bytes r

@@ -18,27 +18,30 @@ pub length-entryBytes : (l : List ℕ) → length (entryBytes l) ≡ length l / 
 unfolding entryBytes
 length-entryBytes l = length-pieces entrySize (length l / entrySize) l
 
+-- and so there are of entries
 pub length-entries : (l : List ℕ) → length (entries l) ≡ length l / entrySize
 unfolding entries
 length-entries l = length-map (entryBytes l) entryOf ∙ length-entryBytes l
 
 module _ (l : List ℕ) (i : ℕ) where
+  -- past the last there is none
   pub past-entries : length l / entrySize ≤ i → [] ≡ entryAt l i
   past-entries h = sym (List·getD-eq-default (entryBytes l) [] (omega (arith, length-entryBytes l)))
 
   module _ (h : i < length l / entrySize) where
+    -- inside the bucket it is the part at its place
     pub entry-part : take (i * entrySize + entrySize - i * entrySize) (drop (i * entrySize) l) ≡ entryAt l i
     unfolding entryBytes
     entry-part = rw (add-sub-cancel-left, piece-at entrySize (length l / entrySize) i l h)
 
-    -- inside the bucket an entry is whole
+    -- and has its size
     pub entry-size : length (entryAt l i) ≡ entrySize
     unfolding entryBytes
     entry-size =
         rw (piece-at entrySize (length l / entrySize) i l h)
         (length-take-le entrySize (drop (i * entrySize) l) (omega (arith, length-drop (i * entrySize) l)))
 
-    -- and so has a record at its head
+    -- so that there is a record at its head
     pub record-there : (e : List ℕ) → e ≡ entryAt l i → recordSize ≤ length e
     record-there e g = rw g (omega (arith, entry-size))
 

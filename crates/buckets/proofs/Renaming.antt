@@ -37,11 +37,12 @@ module _ (l : List ℕ) (p q : Key) (t : Bool) (a : Answer) (e : t ≡ (tooLong 
   pub check-good : (n : ℕ) → a ≡ Value n → Good l p q
   check-good n h = accepted (renameCauses l p q) (length l / entrySize) a checked n h
 
-  -- or its refusal is handed on, with or without more causes after it
+  -- or its refusal is handed on
   module _ {A : Type 0} (o : Refusal → A) (v x : A) (r : Refusal) (h : a ≡ Refused r) (g : x ≡ o r) where
     pub check-refused : x ≡ outcome o (renameCauses l p q) v
     check-refused = refused-by o v x (renameCauses l p q) r (refused (renameCauses l p q) _ a checked r h) g
 
+    -- also where more causes follow
     pub check-refused-first : (d : List ℕ) → x ≡ outcome o (translateBucketCauses l p q d) v
     check-refused-first d = refused-first o v x (renameCauses l p q) _ r (refused (renameCauses l p q) _ a checked r h) g
 
@@ -103,6 +104,7 @@ module _ (l : List ℕ) (p q : Key) (b : Answer) (h : Good l p q) (f : b ≡ ans
     pub room-no : m < n → No ≡ yesOrNo (not (bucketLong l p q || bucketFull l p q m))
     room-no j = rw (not-long l p q b h f kept k, lt-ltb m (neededBytes l p q) (rw (← needed-is l p q n h c) j))
 
+    -- else it fits
     pub fits-yes : n ≤ m → Yes ≡ yesOrNo (not (bucketLong l p q || bucketFull l p q m))
     fits-yes j = rw (not-long l p q b h f kept k, le-ltb m (neededBytes l p q) (rw (← needed-is l p q n h c) j))
 

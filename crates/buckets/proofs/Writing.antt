@@ -47,14 +47,16 @@ after-two : (x y n : ℕ) (k l v w : List ℕ) → length k ≤ n → v ≡ x �
     → take 2 v ++ w ≡ x ∷ y ∷ ((k ++ zeros (n - length k)) ++ l)
 after-two x y n k l v w h e g = rw (g, e) (ap (λ (t : List ℕ). x ∷ y ∷ t) (over-zeros k l n h))
 
--- a zero more over d₀
-module _ (d₀ d : List ℕ) (i : ℕ) (e : length d ≡ length d₀) (h : d ≡ zeros i ++ drop i d₀) where
-  pub clear-turn : i < recordSize → recordSize ≤ length d₀ → set d i 0 ≡ zeros (i + 1) ++ drop (i + 1) d₀
-  clear-turn p q =
+-- i zeros stand over d₀
+module _ (d₀ d : List ℕ) (i : ℕ) (h : d ≡ zeros i ++ drop i d₀) where
+  -- one more
+  pub zeros-turn : i < recordSize → recordSize ≤ length d₀ → set d i 0 ≡ zeros (i + 1) ++ drop (i + 1) d₀
+  zeros-turn p q =
       let j : i < length d₀ = omega arith in
       rw (h, drop-step d₀ i j, set-at (zeros i) (getD d₀ i 0) (drop (i + 1) d₀) 0 i (length-replicate i 0), add-one)
       (zeros-more i (drop (suc i) d₀))
 
+  -- a record's worth of them, and then the length
   pub blank-written : (n : ℕ) → n ≤ maxLen → i ≤ recordSize → recordSize ≤ i → set d 1 n ≡ over (recordOf n []) d₀
   unfolding over recordOf
   blank-written n m p q =

@@ -9,13 +9,14 @@ use model::Refusal;
 ghost use mathlib.Core.Path.{_≡_};
 ghost use Prim.Native.Nat.{_≤_};
 ghost use lib.ListN.{length};
+ghost use Rattle.model.specs.keys.Key.{maxLen};
 ghost use Rattle.model.specs.calls.Refusals.{answer};
 ghost use Rattle.model.specs.calls.BucketCalls.{newBucket};
 ghost use Rattle.buckets.specs.Kept.{Checked, Good, keptOf, longCauses};
 
 // Cause 8 of one entry; else 1 where it is kept, and 0 where its key doesn't begin with the prefix.
 fn measure_entry(entry: &[u8], prefix: &[u8], new_prefix: &[u8]) -> Answer
-    requires { ⌜ (Checked (now entry)) × (length (now «new_prefix») ≤ 64) ⌝ }
+    requires { ⌜ (Checked (now entry)) × (length (now «new_prefix») ≤ maxLen) ⌝ }
     ensures { λ r. ⌜ r ≡ answer (longCauses (keptOf (now (entry .entry)) (now (prefix .entry)) (now («new_prefix» .entry)))) (length (keptOf (now (entry .entry)) (now (prefix .entry)) (now («new_prefix» .entry)))) ⌝ }
 {
     if !begins_with(entry, prefix) {

@@ -61,8 +61,8 @@ fn put_kept(entry: &[u8], prefix: &[u8], new_prefix: &[u8], dest: &mut [u8])
     records::copy(&entry[RECORD_SIZE..], &mut dest[RECORD_SIZE..]);
 }
 
-// Writes what an entry leaves to the head of dest: its translation where its key begins with the prefix, else nothing. Answers
-// the bytes written.
+// Writes what an entry leaves to the head of dest: its translation where its key begins with the prefix, else nothing.
+// Answers the bytes written.
 fn put_entry(entry: &[u8], prefix: &[u8], new_prefix: &[u8], dest: &mut [u8]) -> usize
     requires { ⌜ (Checked (now entry)) × (all shortEntry (keptOf (now entry) (now prefix) (now «new_prefix»)) ≡ true) × (length (keptBytes (now entry) (now prefix) (now «new_prefix»)) ≤ length (now dest)) ⌝ }
     ensures count { λ r. ⌜ r ≡ length (keptBytes (now (entry .entry)) (now (prefix .entry)) (now («new_prefix» .entry))) ⌝ }
@@ -75,8 +75,8 @@ fn put_entry(entry: &[u8], prefix: &[u8], new_prefix: &[u8], dest: &mut [u8]) ->
     ENTRY_SIZE
 }
 
-// Writes the translated bucket, whose entries are so many, to the head of dest. Each entry is written to what the ones
-// before it left of dest.
+// Writes the translated bucket, of so many entries, to the head of dest: each entry to what the ones before it left of dest.
+// What follows the last that is kept isn't looked at.
 pub(crate) fn put_entries(
     bucket: &[u8],
     prefix: &[u8],

@@ -11,14 +11,14 @@ use Rattle.model.specs.inner.Written.{into}
 use Rattle.model.proofs.Lists.{rest, lent-on, take-min}
 use Rattle.records.proofs.Writing.{copy-turn}
 
--- the whole is there where the first n bytes are
+-- the first n bytes are there
 pub bytes-copied : (s d₀ d : List ℕ) (i n : ℕ) → d ≡ take i s ++ drop i d₀ → i ≤ n → n ≤ i → n ≤ length s → d ≡ over (take n s) d₀
 unfolding over
 bytes-copied s d₀ d i n h p q r =
     let e : i ≡ n = omega arith in
     rw (length-take-le n s r, ← e) h
 
--- as far as there is room
+-- and so all that has room is
 pub all-copied : (s d₀ d : List ℕ) (n : ℕ) → n ≡ min (length s) (length d₀) → d ≡ over (take n s) d₀ → d ≡ into s d₀
 unfolding into
 all-copied s d₀ d n e h =
@@ -36,19 +36,23 @@ block-read s d₀ d i h l p q =
 
 -- a block of 16 bytes, written
 module _ (b d₀ d : List ℕ) (i : ℕ) (h : d ≡ take i b ++ drop i d₀) (l : length b ≡ 16) where
+  -- a byte more
   pub block-turn : i < 16 → 16 ≤ length d₀ → set d i (getD b i 0) ≡ take (i + 1) b ++ drop (i + 1) d₀
   block-turn p q = copy-turn b d₀ d i 16 h p (omega arith) q
 
+  -- all of it
   pub block-put : i ≤ 16 → 16 ≤ i → d ≡ over b d₀
   block-put p q = bytes-copied b d₀ d i 16 h p q (omega arith) ∙ ap (λ (x : List ℕ). over x d₀) (take-all 16 b (omega arith))
 
 -- ---- blocks
 
+-- the first i of the n bytes to copy
 pub record Copied (s : List ℕ) (n : ℕ) (d₀ d : List ℕ) (i : ℕ) : Type 0 where
   pub within : i ≤ n
   pub long : length d ≡ length d₀
   pub bytes : d ≡ take i s ++ drop i d₀
 
+-- none at the start
 pub copy-start : (s : List ℕ) (n : ℕ) (d : List ℕ) → Copied s n d d 0
 copy-start s n d = record { within = omega arith; long = refl; bytes = refl }
 
@@ -82,12 +86,15 @@ module _ (s : List ℕ) (n : ℕ) (d₀ d : List ℕ) (i : ℕ) (r : n ≤ lengt
 
   -- one block more
   module _ (h : i < n - 16) where
+    -- there is a block to read
     pub block-room : 16 ≤ length (take (length s - i) (drop i s))
     block-room = rw (rest, length-drop) (omega arith)
 
+    -- and room for it
     pub place-room : 16 ≤ length (take (length d - i) (drop i d))
     place-room = rw (rest, length-drop) (omega (arith, w .long))
 
+    -- and it is copied
     pub copy-on : (b v : List ℕ) → b ≡ take 16 (take (length s - i) (drop i s)) → v ≡ over b (take (length d - i) (drop i d)) → Copied s n d₀ (putMid i (length d - i) d v) (i + 16)
     copy-on b v e g =
         let p = put-at i (omega arith) (omega arith) (omega arith) b v e g in
@@ -99,12 +106,15 @@ module _ (s : List ℕ) (n : ℕ) (d₀ d : List ℕ) (i : ℕ) (r : n ≤ lengt
 
   -- the last block
   module _ (o : 16 ≤ n) (h : n - 16 ≤ i) where
+    -- is there to read
     pub last-room : 16 ≤ length (take (length s - (n - 16)) (drop (n - 16) s))
     last-room = rw (rest, length-drop) (omega arith)
 
+    -- has room
     pub last-place : 16 ≤ length (take (length d - (n - 16)) (drop (n - 16) d))
     last-place = rw (rest, length-drop) (omega (arith, w .long))
 
+    -- and with it all is copied
     pub copy-last : (b v : List ℕ) → b ≡ take 16 (take (length s - (n - 16)) (drop (n - 16) s)) → v ≡ over b (take (length d - (n - 16)) (drop (n - 16) d))
         → putMid (n - 16) (length d - (n - 16)) d v ≡ over (take n s) d₀
     copy-last b v e g =

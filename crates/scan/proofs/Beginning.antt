@@ -74,15 +74,18 @@ pub record Begun (p k : List ℕ) (i : ℕ) : Type 0 where
   pub within : i ≤ length p
   pub same : IsPrefix (drop i p) (drop i k) ≡ IsPrefix p k
 
+-- at the start nothing is decided
 pub begins-start : (p k : List ℕ) → Begun p k 0
 begins-start p k = record { within = omega arith; same = refl }
 
 -- ---- the words before the last
 
 module _ (p k : List ℕ) (i : ℕ) (h : i < length p - 8) (x y : ℕ) (u : x ≡ wordOf 8 (drop i p)) (v : y ≡ wordOf 8 (drop i k)) where
+  -- a word that differs decides
   pub word-differs : (x ≡ y → ⊥) → false ≡ IsPrefix p k
   word-differs d = differs p k i (omega arith) x y u v d
 
+  -- one that agrees is passed
   pub begins-on : x ≡ y → length p ≤ length k → ((j : ℕ) → Fits w8 (getD p j 0)) → ((j : ℕ) → Fits w8 (getD k j 0)) → Begun p k i → Begun p k (i + 8)
   begins-on e l s t g = record { within = omega arith; same = agrees p k i (omega arith) x y u v l s t e ∙ g .same }
 
@@ -98,6 +101,7 @@ module _ (p k : List ℕ) (h : 8 ≤ length p) (l : length p ≤ length k) (j x 
       let f : length p - 8 + (j - (length p - 8)) ≡ j = omega arith in
       sym (g .same) ∙ (rw (drop-drop, drop-drop, f) at (prefix-drop (j - (length p - 8)) (drop (length p - 8) p) (drop (length p - 8) k) w))
 
+  -- its test is the answer
   pub last-decides : eqb x y ≡ IsPrefix p k
   last-decides = go (eqb x y) refl
     where

@@ -5,11 +5,11 @@ use Prim.Native.Nat.{_-_, _≤_}
 use lib.ListN.{length, drop}
 use Rattle.model.specs.records.Record.{recordSize, zeros}
 use borrow.Author.Needs.{needs}
-use Rattle.buckets.proofs.Writing.{clear-turn, blank-written}
+use Rattle.buckets.proofs.Writing.{zeros-turn, blank-written}
 use Rattle.buckets.proofs.write.put_blank.Statement.{statement}
 use Rattle.buckets.proofs.write.put_blank.Tie as tie
 
-ruleset rules = (needs, clear-turn, blank-written)
+ruleset rules = (needs, zeros-turn, blank-written)
 
 abbrev Inv-loop : tie.InvT-loop
 Inv-loop n dest₀ i₀ dest i = (i ≤ recordSize) × (length dest ≡ length dest₀) × (dest ≡ zeros i ++ drop i dest₀)
