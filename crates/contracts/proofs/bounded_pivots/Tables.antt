@@ -1,0 +1,90 @@
+-- BoundedPivotsLib, lines 30 to 71: elements, well-formed tables, and the table of all keys.
+use mathlib.Core.Path.{_≡_, refl, sym, _∙_}
+use mathlib.Core.Bool.{Bool, true, false, _&&_, false≢true}
+use mathlib.Core.List.{List, [], map}
+use Prim.Native.Nat.{ℕ, _-_, _≤_, _<_}
+use native.Mathlib.Omega.{arith}
+use lib.ListN.{length, length-map}
+use Rattle.model.specs.declared.Decided.the-variants as decided
+use Rattle.model.specs.keys.Key.{Key}
+use Rattle.model.specs.keys.Order.{Element, key, max, isKey, lte, same}
+use Rattle.model.specs.records.Record.{elements, encodeAll}
+use Rattle.model.specs.tables.Tables.{PivotTable, NumBuckets, maxPivots, pivotAt, lastPivot, shortElement, ElementsAreKeys, IsStrictlySorted, WFPivots, ContainsAllKeys}
+use Rattle.model.specs.calls.Refusals.{yesOrNo}
+use Rattle.model.specs.calls.TableCalls.{pivotCauses, containsAllKeysAnswer}
+use Rattle.model.proofs.keys.Key.{both}
+use Rattle.model.proofs.keys.Order.{lte-refl, lte-antisym}
+use Rattle.model.proofs.tables.Routing.{wf-of, wf-sorted, wf-keys, wf-all-short, wf-count}
+use Rattle.contracts.specs.Refuses.{Refuses}
+use Rattle.contracts.specs.BoundedPivots.{ElementIsKey, KeysToElements}
+use Rattle.contracts.proofs.Places.{all-places, places-all}
+use Rattle.contracts.proofs.Refusing.{call-refuses, count-refused, pivots-refused}
+use Rattle.contracts.proofs.Lent.{accepted, pivots-read, pivots-lent}
+
+-- predicate ElementIsKey(e: Element)
+pub bounded-pivots-30 : (e : Element) → ElementIsKey e ≡ (isKey e && shortElement e)
+bounded-pivots-30 (key k) = refl
+bounded-pivots-30 max = refl
+
+-- predicate ElementsAreKeys(pt: PivotTable)
+-- that is, each pivot that is a key has at most 64 bytes
+pub bounded-pivots-37 : (pt : PivotTable)
+    → (ElementsAreKeys pt ≡ true → (i : ℕ) → i < length pt → isKey (pivotAt pt i) ≡ true → ElementIsKey (pivotAt pt i) ≡ true)
+    × (((i : ℕ) → i < length pt → isKey (pivotAt pt i) ≡ true → ElementIsKey (pivotAt pt i) ≡ true) → ElementsAreKeys pt ≡ true)
+bounded-pivots-37 pt =
+    (λ h i l k. bounded-pivots-30 (pivotAt pt i) ∙ rw k (all-places shortElement max pt h i l), λ f. places-all shortElement max pt (λ i l. short (pivotAt pt i) (f i l)))
+  where
+    short : (e : Element) → (isKey e ≡ true → ElementIsKey e ≡ true) → shortElement e ≡ true
+    short (key k) f = f refl
+    short max f = refl
+
+-- ensures |keys| == |elements|
+pub bounded-pivots-48 : (keys : List Key) → length keys ≡ length (KeysToElements keys)
+unfolding KeysToElements
+bounded-pivots-48 keys = sym (length-map keys key)
+
+-- the four lines of WFPivots
+pub record WFLines (pt : PivotTable) : Type 0 where
+  pub sorted : IsStrictlySorted pt ≡ true
+  pub keys : (i : ℕ) → i < NumBuckets pt → isKey (pivotAt pt i) ≡ true
+  pub areKeys : ElementsAreKeys pt ≡ true
+  pub many : 2 ≤ length pt
+
+-- predicate WFPivots(pt: PivotTable)
+pub bounded-pivots-53 : (pt : PivotTable) → (WFPivots pt ≡ true → WFLines pt) × (WFLines pt → WFPivots pt ≡ true)
+bounded-pivots-53 pt = (
+  λ w. record { sorted = wf-sorted pt w; keys = wf-keys pt w; areKeys = wf-all-short pt w; many = wf-count pt w },
+  λ l. wf-of pt (l .sorted) (l .areKeys) (l .many),
+)
+
+-- equality by the order is equality
+same-is : (a b : Element) → same a b ≡ true → a ≡ b
+same-is a b h = let c = both (lte a b) (lte b a) h in lte-antisym a b (c .0) (c .1)
+
+is-same : (a b : Element) → a ≡ b → same a b ≡ true
+is-same a b e = rw (e, lte-refl b)
+
+-- predicate ContainsAllKeys(pt: PivotTable)
+pub bounded-pivots-61 : (pt : PivotTable)
+    → (ContainsAllKeys pt ≡ true → (WFPivots pt ≡ true) × (pivotAt pt 0 ≡ key []) × (lastPivot pt ≡ max))
+    × (WFPivots pt ≡ true → pivotAt pt 0 ≡ key [] → lastPivot pt ≡ max → ContainsAllKeys pt ≡ true)
+unfolding ContainsAllKeys
+bounded-pivots-61 pt = (to, λ w f l. rw (w, is-same (pivotAt pt 0) (key []) f) (is-same (lastPivot pt) max l))
+  where
+    to : (WFPivots pt && same (pivotAt pt 0) (key []) && same (lastPivot pt) max) ≡ true → (WFPivots pt ≡ true) × (pivotAt pt 0 ≡ key []) × (lastPivot pt ≡ max)
+    to h =
+        let a = both (WFPivots pt && same (pivotAt pt 0) (key [])) (same (lastPivot pt) max) h in
+        let b = both (WFPivots pt) (same (pivotAt pt 0) (key [])) (a .0) in
+        (b .0, same-is (pivotAt pt 0) (key []) (b .1), same-is (lastPivot pt) max (a .1))
+
+-- requires WFPivots(pt)
+pub bounded-pivots-69 : (p : List ℕ) → WFPivots (elements p) ≡ false → Refuses decided.Refused 3 (containsAllKeysAnswer p)
+bounded-pivots-69 p h = call-refuses _ _ 3 _ (pivots-refused false false p h)
+
+-- requires |pt| < 0x4000_0000_0000_0000
+pub bounded-pivots-70 : (p : List ℕ) → maxPivots < length (elements p) → Refuses decided.Refused 1 (containsAllKeysAnswer p)
+bounded-pivots-70 p h = call-refuses _ _ 1 _ (count-refused false false p h)
+
+-- ensures b == ContainsAllKeys(pt)
+pub bounded-pivots-71 : (pt : PivotTable) → WFPivots pt ≡ true → length pt ≤ maxPivots → containsAllKeysAnswer (encodeAll pt) ≡ yesOrNo (ContainsAllKeys pt)
+bounded-pivots-71 pt w m = rw (pivots-read pt w) (accepted _ _ (pivotCauses false false (encodeAll pt)) (pivots-lent pt w false false m refl refl))

@@ -1,0 +1,3 @@
+pub mod Refuses
+pub mod BoundedPivots
+pub mod Translation
