@@ -1,20 +1,24 @@
 -- A call that is lent the records of a well-formed table has none of the table's causes, and reads the table.
-use mathlib.Core.Path.{_≡_, refl, sym, _∙_}
-use mathlib.Core.Bool.{Bool, true, false}
+use mathlib.Core.Path.{_≡_, refl, sym, ap, _∙_}
+use mathlib.Core.Bool.{Bool, true, false, not}
 use mathlib.Core.List.{List, _++_}
 use mathlib.Core.Option.{none, some}
-use Prim.Native.Nat.{_≤_}
+use Prim.Native.Nat.{ℕ, _≤_}
+use borrow.Author.Tests.{eq-eqb, leb-true}
 use lib.ListN.{length}
 use Rattle.model.specs.declared.Refusal.{Refusal}
 use Rattle.model.specs.calls.Refusals.{Cause, outcome, first}
+use Rattle.model.specs.calls.KeyCalls.{notRecord, notElement}
 use Rattle.model.specs.calls.TableCalls.{pivotCauses, tableCauses, keyCauses, slotCauses, edgeSlotCauses}
 use Rattle.model.specs.keys.Key.{Key, maxLen, tooLong}
-use Rattle.model.specs.records.Record.{elements, edges, encodeAll, encodeEdges}
-use Rattle.model.specs.tables.Tables.{PivotTable, EdgeTable, maxPivots, all, shortEdge, WFPivots, WFEdges}
+use Rattle.model.specs.keys.Order.{Element, key, max}
+use Rattle.model.specs.records.Record.{recordSize, reading, elementReading, element, encode, elements, edges, encodeAll, encodeEdges}
+use Rattle.model.specs.tables.Tables.{PivotTable, EdgeTable, maxPivots, all, shortElement, shortEdge, WFPivots, WFEdges}
 use Rattle.model.proofs.calls.Refusals.{passed, after}
 use Rattle.model.proofs.calls.TableCalls.{not-too-long}
 use Rattle.model.proofs.calls.Alike.{slot-first}
 use Rattle.model.proofs.calls.WrittenTables.{wf-causes, wf-table-causes}
+use Rattle.model.proofs.records.Record.{length-encode, element-encode, reading-key, reading-max}
 use Rattle.model.proofs.records.Records.{elements-encodeAll, edges-encodeEdges}
 use Rattle.model.proofs.tables.Routing.{wf-all-short}
 
@@ -25,6 +29,24 @@ accepted f v cs h = sym (passed f v v cs h refl)
 -- where none of the first causes applies, the others decide
 pub go-on : {A : Type 0} (f : Refusal → A) (v : A) (cs ds : List Cause) → first cs ≡ none → outcome f (cs ++ ds) v ≡ outcome f ds v
 go-on f v cs ds h = sym (after f v (outcome f ds v) cs ds h refl)
+
+-- an element as its record
+pub record ElementLent (r : List ℕ) (e : Element) : Type 0 where
+  pub one : notRecord r ≡ false
+  pub right : notElement r ≡ false
+  pub stands : element r ≡ e
+
+pub element-lent : (e : Element) → shortElement e ≡ true → ElementLent (encode e) e
+element-lent e s =
+    record {
+      one = ap not (eq-eqb (length (encode e)) recordSize (length-encode e s));
+      right = ap not (reads e s);
+      stands = element-encode e s;
+    }
+  where
+    reads : (e : Element) → shortElement e ≡ true → elementReading (reading (encode e)) ≡ true
+    reads (key k) h = rw (reading-key k (leb-true (length k) maxLen h))
+    reads max h = rw reading-max
 
 -- pivots as their records
 module _ (pt : PivotTable) (w : WFPivots pt ≡ true) where

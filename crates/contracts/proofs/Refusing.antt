@@ -5,20 +5,22 @@ use mathlib.Core.List.{List, [], _∷_, _++_}
 use mathlib.Core.Option.{Option, none, some}
 use Prim.Native.Nat.{ℕ, _/_, _%_, _≤_, _<_}
 use native.Mathlib.Omega.{arith}
-use borrow.Author.Tests.{leb-true, not-false}
+use borrow.Author.Tests.{leb-true, leb-false, lt-ltb, not-false}
 use lib.Dec.{eqb, leb}
 use lib.ListN.{length}
 use Rattle.model.specs.declared.Refusal.{Refusal}
-use Rattle.model.specs.declared.Refusal.the-variants.{Shape, OutOfRange}
-use Rattle.model.specs.keys.Key.{Key, tooLong}
+use Rattle.model.specs.declared.Refusal.the-variants.{Shape, Malformed, OutOfRange}
+use Rattle.model.specs.keys.Key.{Key, maxLen, tooLong}
+use Rattle.model.specs.keys.Order.{key}
 use Rattle.model.specs.records.Record.{recordSize, records, elements, edges}
 use Rattle.model.specs.tables.Tables.{minPivots, maxPivots, WFPivots, WFEdges}
 use Rattle.model.specs.calls.Refusals.{Cause, _⇒_, number, outcome, first}
-use Rattle.model.specs.calls.TableCalls.{notPivotCount, notEdgeCount, edgesRead, pivotCauses, tableCauses, keyCauses, slotCauses, edgeSlotCauses}
+use Rattle.model.specs.calls.TableCalls.{notPivotCount, notEdgeCount, pivotsRead, edgesRead, pivotCauses, tableCauses, keyCauses, slotCauses, edgeSlotCauses}
 use Rattle.model.proofs.keys.Key.{both}
-use Rattle.model.proofs.calls.Refusals.{refused-by, refused-first, none-here, none-after}
+use Rattle.model.proofs.calls.Refusals.{refused-by, refused-first, none-here, none-later, none-after}
 use Rattle.model.proofs.calls.TableCalls.{length-elements, either-fails, causes-wf, table-edges}
 use Rattle.contracts.specs.Refuses.{Refuses}
+use Rattle.contracts.specs.BoundedPivots.{ElementIsKey}
 
 -- the numbers of causes are at most n
 abbrev pub numbersUpTo : ℕ → List Cause → Bool
@@ -58,6 +60,10 @@ pub call-refuses : {A : Type 0} (f : Refusal → A) (v : A) (n : ℕ) (cs : List
 call-refuses f v n cs w =
     record { refusal = w .refusal; answered = sym (refused-by f v (f (w .refusal)) cs (w .refusal) (w .answered) refl); upTo = w .upTo }
 
+-- a key that isn't one of at most 64 bytes
+pub not-key-long : (k : Key) → ElementIsKey (key k) ≡ false → tooLong k ≡ true
+not-key-long k h = lt-ltb maxLen (length k) (leb-false (length k) maxLen h)
+
 -- ---- pivots and edges
 
 counted-most : (p : List ℕ) → notPivotCount p ≡ false → length (elements p) ≤ maxPivots
@@ -74,6 +80,14 @@ module _ (shape wrong : Bool) (p : List ℕ) where
   count-refused h =
       let c = (shape || notPivotCount p ⇒ Shape) ∷ [] in
       more-refused 1 c _ (contrary-refused 1 c refl (λ e. absurd (omega (arith, counted-most p (either-fails shape (notPivotCount p) (none-here _ Shape [] e) .1)))))
+
+  -- another argument that is too long, or no record of what it must be
+  pub wrong-refused : wrong ≡ true → Refused 2 (pivotCauses shape wrong p)
+  unfolding pivotCauses
+  wrong-refused h =
+      let c = (shape || notPivotCount p ⇒ Shape) ∷ (wrong || not (pivotsRead (records p)) ⇒ Malformed) ∷ [] in
+      more-refused 2 c _ (contrary-refused 2 c refl
+      (λ e. true≢false (sym h ∙ either-fails wrong (not (pivotsRead (records p))) (none-here _ Malformed [] (none-later _ Shape _ e)) .0)))
 
   -- `WFPivots(pt)`
   pub pivots-refused : WFPivots (elements p) ≡ false → Refused 3 (pivotCauses shape wrong p)

@@ -1,1 +1,4 @@
 pub mod Tables
+pub mod Questions
+pub mod Keys
+pub mod Slots
