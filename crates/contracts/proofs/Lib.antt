@@ -1,4 +1,5 @@
 pub mod Refusing
 pub mod Lent
+pub mod CutsLent
 pub mod Places
 pub mod bounded_pivots
