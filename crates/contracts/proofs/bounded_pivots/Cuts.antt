@@ -2,12 +2,11 @@
 use mathlib.Core.Path.{_≡_, _∙_}
 use mathlib.Core.Bool.{Bool, true, false}
 use mathlib.Core.List.{List}
-use mathlib.Core.Option.{none}
 use Prim.Native.Nat.{ℕ, _*_, _≤_, _<_}
 use lib.ListN.{length}
 use Rattle.model.specs.declared.Answer.the-variants as answers
 use Rattle.model.specs.keys.Key.{Key, maxLen, tooLong}
-use Rattle.model.specs.records.Record.{recordSize, elements, edges, encodeAll, encodeEdges}
+use Rattle.model.specs.records.Record.{recordSize, elements, encodeAll, encodeEdges}
 use Rattle.model.specs.tables.Tables.{PivotTable, EdgeTable, maxPivots, all, shortEdge, WFPivots, WFEdges, BoundedKey, ValidLeftCutOffKey}
 use Rattle.model.specs.cuts.Cuts.{SplitLeft, SplitRight, SplitLeftEdges, SplitRightEdges}
 use Rattle.model.specs.cuts.Sides.{inside, Split, SplitEdges}

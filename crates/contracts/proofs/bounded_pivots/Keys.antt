@@ -1,7 +1,7 @@
 -- BoundedPivotsLib, lines 159 and 200 to 224: PivotSize, the first table, and the key at a place.
 use mathlib.Core.Path.{_≡_, refl, sym, _∙_}
-use mathlib.Core.Bool.{Bool, true, false, not, _&&_}
-use mathlib.Core.List.{List, [], _∷_, _++_}
+use mathlib.Core.Bool.{true, false}
+use mathlib.Core.List.{List, []}
 use mathlib.Core.Option.{none}
 use Prim.Native.Nat.{ℕ, _*_, _≤_, _<_}
 use borrow.Author.Tests.{le-ltb, lt-ltb, le-leb, eq-eqb, not-false}
@@ -10,12 +10,12 @@ use lib.ListN.{length}
 use Rattle.model.specs.declared.Refusal.the-variants.{NoSuchSlot}
 use Rattle.model.specs.declared.Answer.the-variants as answers
 use Rattle.model.specs.keys.Key.{Key, maxLen}
-use Rattle.model.specs.keys.Order.{key, isKey}
+use Rattle.model.specs.keys.Order.{key, max, isKey}
 use Rattle.model.specs.records.Record.{recordSize, keyBytes, encode, elements, encodeAll}
 use Rattle.model.specs.tables.Tables.{PivotTable, minPivots, maxPivots, pivotAt, WFPivots, InitPivotTable, GetKey}
 use Rattle.model.specs.calls.Refusals.{outcome, first, over}
-use Rattle.model.specs.calls.KeyCalls.{pivotKeyCauses, pivotKeyAnswer}
-use Rattle.model.specs.calls.TableCalls.{pivotCauses, getKeyCauses, getKeyAnswer, getKeyPart, initPivotTableCauses, initPivotTableAnswer, initPivotTableLeaves}
+use Rattle.model.specs.calls.KeyCalls.{pivotKeyAnswer}
+use Rattle.model.specs.calls.TableCalls.{pivotCauses, getKeyCauses, getKeyAnswer, getKeyPart, initPivotTableAnswer, initPivotTableLeaves}
 use Rattle.model.proofs.keys.Key.{both}
 use Rattle.model.proofs.records.Record.{length-encode, reading-key, bytes-record}
 use Rattle.model.proofs.tables.Routing.{init-wf, get-key}
@@ -23,15 +23,15 @@ use Rattle.model.proofs.calls.Refusals.{none-here, none-after}
 use Rattle.contracts.specs.Refuses.{Refuses}
 use Rattle.contracts.specs.BoundedPivots.{PivotSize}
 use Rattle.contracts.proofs.Refusing.{clause-refused, more-refused, call-refuses, count-refused, pivots-refused}
-use Rattle.contracts.proofs.Lent.{accepted, go-on, element-lent, pivots-read, pivots-lent}
+use Rattle.contracts.proofs.Lent.{accepted, go-on, pivots-read, pivots-lent}
 
 -- function method PivotSize(e: Element) : (n: uint64)
--- of the record of a key, pivot_key answers it
-pub bounded-pivots-159 : (k : Key) → length k ≤ maxLen → pivotKeyAnswer (encode (key k)) ≡ answers.Value (PivotSize (key k))
+-- of the record of a key, pivot_key answers it; of max it is 0
+pub bounded-pivots-159 : (k : Key) → length k ≤ maxLen → (pivotKeyAnswer (encode (key k)) ≡ answers.Value (PivotSize (key k))) × (PivotSize max ≡ 0)
 unfolding outcome
 bounded-pivots-159 k s =
     let b : keyBytes (encode (key k)) ≡ k = unfold encode in bytes-record k in
-    rw (eq-eqb (length (encode (key k))) recordSize (length-encode (key k) (le-leb (length k) maxLen s)), reading-key k s, b)
+    (rw (eq-eqb (length (encode (key k))) recordSize (length-encode (key k) (le-leb (length k) maxLen s)), reading-key k s, b), refl)
 
 -- function method InitPivotTable() : (pt: PivotTable)
 pub bounded-pivots-200 : (d : List ℕ) → minPivots * recordSize ≤ length d

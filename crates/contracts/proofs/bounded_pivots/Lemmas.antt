@@ -1,5 +1,5 @@
 -- BoundedPivotsLib: two of the comments that are left of lemmas, at lines 234 and 385.
-use mathlib.Core.Path.{_≡_, sym, ap, _∙_}
+use mathlib.Core.Path.{_≡_, ap, _∙_}
 use mathlib.Core.Bool.{true}
 use mathlib.Core.List.{List, _++_}
 use mathlib.Core.Logic.{⊎-elim}
@@ -16,7 +16,7 @@ use Rattle.model.specs.translation.ParentChild.{ParentKeysInChildRange}
 use Rattle.model.proofs.Lists.{le-or-lt}
 use Rattle.model.proofs.cuts.Between.{BytesT}
 use Rattle.model.proofs.tables.Places.{sorted-at, sorted-of}
-use Rattle.model.proofs.tables.Routing.{wf-of, wf-sorted, wf-short, wf-count}
+use Rattle.model.proofs.tables.Routing.{wf-of, wf-sorted, wf-short}
 use Rattle.model.proofs.translation.ParentChild.{parent-child-bounded}
 use Rattle.contracts.proofs.Places.{places-all}
 

@@ -1,30 +1,28 @@
 -- BoundedPivotsLib, lines 79 to 145 and 237 to 250: ContainsRange, bounded keys, PivotInsertable.
-use mathlib.Core.Path.{_≡_, refl, sym, _∙_}
-use mathlib.Core.Bool.{Bool, true, false, not, _&&_, _||_, true≢false}
+use mathlib.Core.Path.{_≡_, refl, _∙_}
+use mathlib.Core.Bool.{true, false, _&&_, _||_}
 use mathlib.Core.List.{List, [], _∷_, map}
-use mathlib.Core.Option.{none, some}
+use mathlib.Core.Option.{none}
 use Prim.Native.Nat.{ℕ, _-_, _≤_, _<_}
 use native.Mathlib.Omega.{arith}
-use borrow.Author.Tests.{lt-ltb, eq-eqb, not-false}
-use lib.Dec.{ltb}
+use borrow.Author.Tests.{lt-ltb, not-false}
 use lib.ListN.{length, getD, length-map}
-use Rattle.model.specs.declared.Refusal.the-variants.{Malformed, NotBelow}
+use Rattle.model.specs.declared.Refusal.the-variants.{NotBelow}
 use Rattle.model.specs.declared.Decided.the-variants as decided
 use Rattle.model.specs.keys.Key.{Key, maxLen, tooLong}
 use Rattle.model.specs.keys.Order.{Element, key, max, lte, lt}
-use Rattle.model.specs.records.Record.{recordSize, reading, elementReading, element, elements, encode, encodeAll}
+use Rattle.model.specs.records.Record.{element, elements, encode, encodeAll}
 use Rattle.model.specs.tables.Tables.{PivotTable, maxPivots, pivotAt, lastPivot, all, shortElement, IsStrictlySorted, WFPivots}
 use Rattle.model.specs.tables.Tables.{ContainsRange, BoundedKey, ValidLeftCutOffKey, PivotInsertable}
-use Rattle.model.specs.calls.Refusals.{Cause, _⇒_, outcome, first, yesOrNo}
+use Rattle.model.specs.calls.Refusals.{outcome, first, yesOrNo}
 use Rattle.model.specs.calls.KeyCalls.{notRecord, notElement}
 use Rattle.model.specs.calls.TableCalls.{pivotCauses, keyCauses, containsRangeCauses, containsRangeAnswer, boundedKeyAnswer, validLeftCutOffKeyAnswer, pivotInsertableAnswer}
 use Rattle.model.proofs.Lists.{getD-map}
 use Rattle.model.proofs.keys.Key.{both}
-use Rattle.model.proofs.keys.Order.{lte-refl, lte-trans, lte-trans-lt}
-use Rattle.model.proofs.records.Record.{length-encode, element-encode, short-element}
+use Rattle.model.proofs.keys.Order.{lte-trans, lte-trans-lt}
 use Rattle.model.proofs.tables.Places.{sorted-lte}
-use Rattle.model.proofs.calls.Refusals.{none-here, none-after, none-before}
-use Rattle.model.proofs.calls.TableCalls.{causes-wrong, not-too-long, either-fails}
+use Rattle.model.proofs.calls.Refusals.{none-here, none-after}
+use Rattle.model.proofs.calls.TableCalls.{not-too-long}
 use Rattle.contracts.specs.Refuses.{Refuses}
 use Rattle.contracts.specs.BoundedPivots.{ElementIsKey, KeysToElements, BoundedKeySeq, BoundedSortedKeySeq}
 use Rattle.contracts.proofs.Places.{all-places, places-all, same-tests}

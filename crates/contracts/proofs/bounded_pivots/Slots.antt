@@ -1,13 +1,12 @@
 -- BoundedPivotsLib, lines 177 to 197, 229 to 234, 294 to 308, 336 to 350 and 378: the slot of a key, and the cut-offs.
-use mathlib.Core.Path.{_≡_, refl, sym, _∙_}
-use mathlib.Core.Bool.{Bool, true, false, _&&_}
-use mathlib.Core.List.{List, _++_}
-use mathlib.Core.Option.{none}
+use mathlib.Core.Path.{_≡_, sym}
+use mathlib.Core.Bool.{true, false, _&&_}
+use mathlib.Core.List.{List}
 use Prim.Native.Nat.{ℕ, _+_, _-_, _≤_, _<_}
 use native.Mathlib.Omega.{arith}
 use borrow.Author.Tests.{eqb-true, eq-eqb}
 use lib.Dec.{eqb}
-use lib.ListN.{length, take, drop}
+use lib.ListN.{length}
 use Rattle.model.specs.declared.Routed.the-variants as routed
 use Rattle.model.specs.keys.Key.{Key, maxLen}
 use Rattle.model.specs.keys.Order.{key, lte, lt}
@@ -16,7 +15,6 @@ use Rattle.model.specs.records.Record.{elements, encodeAll}
 use Rattle.model.specs.tables.Tables.{PivotTable, NumBuckets, maxPivots, pivotAt, WFPivots, BoundedKey, ValidLeftCutOffKey, GetKey, Route, CutoffForLeft, CutoffForRight}
 use Rattle.model.specs.calls.TableCalls.{keyCauses, slotCauses, routeAnswer, cutoffForLeftAnswer, cutoffForRightAnswer}
 use Rattle.model.proofs.keys.Key.{both}
-use Rattle.model.proofs.keys.Order.{lt-false}
 use Rattle.model.proofs.tables.Places.{sorted-at}
 use Rattle.model.proofs.tables.Routing.{wf-sorted, route-inside, route-lower, route-upper, route-between, slot-bounded, slot-is-route, pivot-bounded, route-of-pivot, cutoff-right-is-route}
 use Rattle.model.proofs.tables.Routing.{cutoff-left-inside, cutoff-left-lower, cutoff-left-upper}

@@ -1,10 +1,9 @@
 -- BoundedPivotsLib, lines 30 to 71: elements, well-formed tables, and the table of all keys.
 use mathlib.Core.Path.{_≡_, refl, sym, _∙_}
-use mathlib.Core.Bool.{Bool, true, false, _&&_, false≢true}
-use mathlib.Core.List.{List, [], map}
+use mathlib.Core.Bool.{true, false, _&&_}
+use mathlib.Core.List.{List, []}
 use Prim.Native.Nat.{ℕ, _-_, _≤_, _<_}
-use native.Mathlib.Omega.{arith}
-use lib.ListN.{length, length-map}
+use lib.ListN.{length, getD, length-map}
 use Rattle.model.specs.declared.Decided.the-variants as decided
 use Rattle.model.specs.keys.Key.{Key}
 use Rattle.model.specs.keys.Order.{Element, key, max, isKey, lte, same}
@@ -12,6 +11,7 @@ use Rattle.model.specs.records.Record.{elements, encodeAll}
 use Rattle.model.specs.tables.Tables.{PivotTable, NumBuckets, maxPivots, pivotAt, lastPivot, shortElement, ElementsAreKeys, IsStrictlySorted, WFPivots, ContainsAllKeys}
 use Rattle.model.specs.calls.Refusals.{yesOrNo}
 use Rattle.model.specs.calls.TableCalls.{pivotCauses, containsAllKeysAnswer}
+use Rattle.model.proofs.Lists.{getD-map}
 use Rattle.model.proofs.keys.Key.{both}
 use Rattle.model.proofs.keys.Order.{lte-refl, lte-antisym}
 use Rattle.model.proofs.tables.Routing.{wf-of, wf-sorted, wf-keys, wf-all-short, wf-count}
@@ -37,6 +37,11 @@ bounded-pivots-37 pt =
     short : (e : Element) → (isKey e ≡ true → ElementIsKey e ≡ true) → shortElement e ≡ true
     short (key k) f = f refl
     short max f = refl
+
+-- function KeysToElements(keys: seq<Key>): (elements: seq<Element>)
+pub bounded-pivots-47 : (keys : List Key) (i : ℕ) → i < length keys → pivotAt (KeysToElements keys) i ≡ key (getD keys i [])
+unfolding KeysToElements
+bounded-pivots-47 keys i l = getD-map key keys i max [] l
 
 -- ensures |keys| == |elements|
 pub bounded-pivots-48 : (keys : List Key) → length keys ≡ length (KeysToElements keys)
