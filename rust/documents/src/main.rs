@@ -1,0 +1,53 @@
+//! Checks the documents, from the root of the repository: `documents contracts` the table of the source's contracts,
+//! `documents names` the names in code style. A line for each failure, then 'N passed, M failed'; the status is 1
+//! where something failed.
+mod code;
+mod contracts;
+#[cfg(test)]
+mod contracts_tests;
+mod evidence;
+#[cfg(test)]
+mod evidence_tests;
+mod exceptions;
+mod known;
+mod names;
+#[cfg(test)]
+mod names_tests;
+mod report;
+mod repository;
+mod rows;
+#[cfg(test)]
+mod sample;
+mod source;
+#[cfg(test)]
+mod source_tests;
+mod table;
+#[cfg(test)]
+mod theorem_tests;
+mod theorems;
+
+use exceptions::EXCEPTIONS;
+use repository::Repository;
+use std::path::Path;
+use std::process::ExitCode;
+
+fn main() -> ExitCode {
+    let asked = std::env::args().nth(1).unwrap_or_default();
+    let repository = match Repository::read(Path::new(".")) {
+        Ok(repository) => repository,
+        Err(error) => {
+            eprintln!("the repository can't be read: {error}");
+            return ExitCode::from(2);
+        }
+    };
+    let report = match asked.as_str() {
+        "contracts" => contracts::check(&repository),
+        "names" => names::check(&repository, EXCEPTIONS),
+        _ => {
+            eprintln!("documents contracts | names");
+            return ExitCode::from(2);
+        }
+    };
+    report.print(&asked);
+    ExitCode::from(u8::from(!report.failures.is_empty()))
+}
