@@ -1,5 +1,6 @@
 //! Names as documents cite them, `path:name`, and the names that are public in a file.
 use crate::repository::Repository;
+use crate::words::words;
 
 #[derive(Clone, Debug, PartialEq)]
 pub struct Evidence {
@@ -52,12 +53,6 @@ pub fn has(names: &[Public], name: &str) -> bool {
     let is_there = |wanted: &str| names.iter().any(|public| public.name == wanted);
     let owner = name.rsplit_once("::").map(|(owner, _)| owner);
     is_there(name) && owner.is_none_or(is_there)
-}
-
-/// Runs of letters, digits and underscores.
-pub fn words(text: &str) -> impl Iterator<Item = &str> {
-    text.split(|c: char| !(c.is_ascii_alphanumeric() || c == '_'))
-        .filter(|word| !word.is_empty())
 }
 
 fn public_in_antt(text: &str) -> Vec<Public> {

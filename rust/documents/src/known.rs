@@ -1,7 +1,7 @@
 //! What there is to name: files, crates with their public names, laws, and the words of the code.
-use crate::code::{is_code, tokens, words_of_code};
-use crate::evidence::{has, public, words, Evidence, Public};
+use crate::evidence::{has, public, Evidence, Public};
 use crate::repository::Repository;
+use crate::words::{is_code, tokens, words, words_of_code};
 use std::collections::BTreeSet;
 
 pub struct Known<'a> {
@@ -114,7 +114,11 @@ impl<'a> Known<'a> {
         let folders = [format!("crates/{name}/src"), format!("rust/{name}/src")];
         let under = |folder| self.repository.under(folder);
         let files: Vec<(&str, &str)> = folders.iter().flat_map(|f| under(f)).collect();
-        let is_root = |path: &str| ["lib.rt", "lib.rs"].iter().any(|root| path.ends_with(root));
+        let is_root = |path: &str| {
+            ["/lib.rt", "/lib.rs"]
+                .iter()
+                .any(|root| path.ends_with(root))
+        };
         let roots = files.iter().filter(|(path, _)| is_root(path));
         let handed_on: BTreeSet<&str> = roots.flat_map(|(_, text)| handed_on(text)).collect();
         let mut names = vec![];

@@ -1,7 +1,6 @@
 //! Checks the documents, from the root of the repository: `documents contracts` the table of the source's contracts,
 //! `documents names` the names in code style. A line for each failure, then 'N passed, M failed'; the status is 1
 //! where something failed.
-mod code;
 mod contracts;
 #[cfg(test)]
 mod contracts_tests;
@@ -25,6 +24,7 @@ mod table;
 #[cfg(test)]
 mod theorem_tests;
 mod theorems;
+mod words;
 
 use exceptions::EXCEPTIONS;
 use repository::Repository;

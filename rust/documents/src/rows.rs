@@ -1,9 +1,10 @@
 //! A row of the table of contracts: how it is read, and whether its status fits.
-use crate::evidence::{words, Evidence};
+use crate::evidence::Evidence;
 use crate::repository::Repository;
 use crate::source::{Item, Kind};
 use crate::table::{self, spans_of};
 use crate::theorems::is_theorem;
+use crate::words::words;
 
 pub struct Contract {
     /// The row's line in the document, and the line in the source that it is about.

@@ -1,5 +1,4 @@
-//! The words of the code.
-use crate::evidence::words;
+//! Words, and those of the code.
 
 /// This crate names things that don't exist, as samples and exceptions: its words show nothing.
 const THIS_CRATE: &str = "rust/documents/";
@@ -43,6 +42,12 @@ pub fn words_of_code(path: &str, text: &str) -> Vec<String> {
         block &= !line.contains("*/");
     }
     found.into_iter().map(str::to_string).collect()
+}
+
+/// Runs of letters, digits and underscores.
+pub fn words(text: &str) -> impl Iterator<Item = &str> {
+    text.split(|c: char| !(c.is_ascii_alphanumeric() || c == '_'))
+        .filter(|word| !word.is_empty())
 }
 
 /// Names: words, joined by `::` or, before a letter, by hyphens.
