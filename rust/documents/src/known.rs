@@ -1,6 +1,7 @@
 //! What there is to name: files, crates with their public names, laws, and the words of the code.
 use crate::evidence::{has, public, Evidence, Public};
 use crate::repository::Repository;
+use crate::source::items;
 use crate::words::{is_code, tokens, words, words_of_code};
 use std::collections::BTreeSet;
 
@@ -13,6 +14,8 @@ pub struct Known<'a> {
     endings: BTreeSet<&'a str>,
     /// Public names of definitions and laws.
     laws: BTreeSet<String>,
+    /// Declarations, clauses and comments of the source.
+    quotes: BTreeSet<String>,
 }
 
 impl<'a> Known<'a> {
@@ -23,6 +26,7 @@ impl<'a> Known<'a> {
             places: BTreeSet::new(),
             endings: BTreeSet::new(),
             laws: BTreeSet::new(),
+            quotes: BTreeSet::new(),
         };
         for (path, text) in repository.files() {
             known.places.extend(path.split('/'));
@@ -38,11 +42,20 @@ impl<'a> Known<'a> {
                 let names = public(path, text).unwrap_or_default();
                 known.laws.extend(names.into_iter().map(|law| law.name));
             }
+            if path.ends_with(".dfy") {
+                let texts = items(text).into_iter().map(|item| item.text);
+                known.quotes.extend(texts);
+            }
             if is_code(path) {
                 known.words.extend(words_of_code(path, text));
             }
         }
         known
+    }
+
+    /// Whether a span is the source's own text.
+    pub fn quotes(&self, span: &str) -> bool {
+        self.quotes.contains(span)
     }
 
     /// What is wrong with a piece of a span, if anything.

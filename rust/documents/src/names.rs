@@ -18,7 +18,8 @@ pub fn check(repository: &Repository, exceptions: &[(&str, &str)]) -> Report {
                 continue;
             };
             let mut faults = vec![];
-            for piece in span.split_whitespace().map(bare) {
+            let pieces = span.split_whitespace().filter(|_| !known.quotes(&span));
+            for piece in pieces.map(bare) {
                 let excepted = exceptions.iter().find(|(name, _)| *name == piece);
                 match (known.fault(piece), excepted) {
                     (Some(_), Some((name, _))) => drop(used.insert(*name)),

@@ -3,9 +3,10 @@ use crate::names::check;
 use crate::report::Report;
 use crate::repository::Repository;
 
-const FILES: [(&str, &str); 9] = [
+const FILES: [(&str, &str); 10] = [
     ("docs/FORMAT.md", ""),
     ("docs/src/INDEX.md", "`nothing_like_it`\n"),
+    ("docs/src/lib/M.dfy", "  // each bucket is non-empty\n  requires e.Element?\n"),
     (
         "crates/model/specs/keys/Order.antt",
         "-- spokenOf here\nabbrev pub isKey : A\npub lte-refl : A\nown-law : A\nown-law = longer-name\n",
@@ -143,6 +144,12 @@ fn path_and_name() {
     let name = "crates/tables/src/ask.rt:wf_edges";
     let says = "wf_edges is not public in crates/tables/src/ask.rt";
     fails(name, &format!("`{name}`: {says}"));
+}
+
+#[test]
+fn quotes_of_the_source() {
+    passes(&["each bucket is non-empty", "requires e.Element?"]);
+    fails("bucket is non-empty", "there is no law non-empty");
 }
 
 #[test]
