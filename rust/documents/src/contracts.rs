@@ -152,7 +152,9 @@ fn faults_of(theorem: &Theorem, files: &[File]) -> Vec<String> {
     let cites = |row: &&Contract| row.cites(&theorem.path, &theorem.name);
     if file.row(line).filter(cites).is_none() {
         let rows = files.iter().flat_map(|file| &file.rows).filter(cites);
-        let others: String = rows.map(|row| format!(", but {} does", row.at)).collect();
+        let others: String = rows
+            .map(|row| format!(", but {DOCUMENT}:{} does", row.at))
+            .collect();
         faults.push(format!("the row of {path}:{line} doesn't cite it{others}"));
     }
     if !theorem.comment.starts_with(&item.text) {

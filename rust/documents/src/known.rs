@@ -127,21 +127,15 @@ impl<'a> Known<'a> {
         let folders = [format!("crates/{name}/src"), format!("rust/{name}/src")];
         let under = |folder| self.repository.under(folder);
         let files: Vec<(&str, &str)> = folders.iter().flat_map(|f| under(f)).collect();
-        let is_root = |path: &str| {
-            ["/lib.rt", "/lib.rs"]
-                .iter()
-                .any(|root| path.ends_with(root))
-        };
+        let is_root = |path: &str| path.ends_with("/lib.rt") || path.ends_with("/lib.rs");
         let roots = files.iter().filter(|(path, _)| is_root(path));
         let handed_on: BTreeSet<&str> = roots.flat_map(|(_, text)| handed_on(text)).collect();
         let mut names = vec![];
         for (path, text) in &files {
             let all = public(path, text).unwrap_or_default();
             let reached = |public: &Public| {
-                is_root(path)
-                    || words(&public.name)
-                        .next()
-                        .is_some_and(|n| handed_on.contains(n))
+                let first = words(&public.name).next().unwrap_or("");
+                is_root(path) || handed_on.contains(first)
             };
             names.extend(all.into_iter().filter(reached));
         }

@@ -106,7 +106,7 @@ fn theorem_cited_by_another_row_alone() {
     let text = unchanged().text(DOCUMENT).unwrap().replace(from, to);
     let theorem = "-- type Pkv = seq<Key>\npub bounded-pivots-17 : A\n";
     let found = faults(&also(&[(DOCUMENT, &text), (THEOREMS, theorem)]));
-    let says = format!("the row of {SOURCE}:17 doesn't cite it, but 20 does");
+    let says = format!("the row of {SOURCE}:17 doesn't cite it, but docs/CONTRACTS.md:20 does");
     let wanted = format!("{THEOREMS}:2: bounded-pivots-17: {says}");
     assert!(found.contains(&wanted), "{found:#?}");
 }
