@@ -1,0 +1,76 @@
+// Calls the three functions that hand back a part of what they are lent, and prints each part: a line of hexadecimal,
+// `-` where the part is empty.
+use libc::STDOUT_FILENO;
+use model::ENTRY_SIZE;
+use model::RECORD_SIZE;
+ghost use mathlib.Core.Path.{_≡_};
+ghost use lib.ListN.{length};
+
+fn wide(x: u8) -> u64 {
+    x as u64
+}
+
+fn print_part(part: &[u8]) {
+    if part.len() == 0 {
+        io::write_all(STDOUT_FILENO, b"-");
+    }
+    let mut i = 0;
+    while i < part.len() {
+        io::print_hex(STDOUT_FILENO, wide(part[i]), 2);
+        i += 1;
+    }
+    io::write_all(STDOUT_FILENO, b"\n");
+}
+
+// The part of a pivot record.
+fn show_pivot(field: u16, k: &[u8]) {
+    let rec = records::record_of(field, k);
+    print_part(keys::pivot_key_part(&rec));
+}
+
+// The part of an entry with the same record, and the number 0.
+fn show_entry(field: u16, k: &[u8]) {
+    let mut entry = [0u8; ENTRY_SIZE];
+    records::put_record(field, k, &mut entry);
+    print_part(keys::entry_key_part(&entry));
+}
+
+// Three pivots, one after the other.
+fn put_pivots(a: [u8; 66], b: [u8; 66], c: [u8; 66], dest: &mut [u8])
+    requires { ⌜ length (now dest) ≡ 198 ⌝ }
+{
+    records::store(a, dest);
+    records::store(b, &mut dest[RECORD_SIZE..]);
+    records::store(c, &mut dest[2 * RECORD_SIZE..]);
+}
+
+// The part of three pivots at a place.
+fn show_place(a: [u8; 66], b: [u8; 66], c: [u8; 66], place: usize) {
+    let mut pivots = [0u8; 3 * RECORD_SIZE];
+    put_pivots(a, b, c, &mut pivots);
+    print_part(tables::get_key_part(&pivots, place));
+}
+
+fn main() {
+    // a key, the empty key, max, no edge, a length of 65, a byte after the key
+    io::write_all(STDOUT_FILENO, b"pivot_key_part\n");
+    show_pivot(2, b"A0");
+    show_pivot(0, b"");
+    show_pivot(65535, b"");
+    show_pivot(65534, b"");
+    show_pivot(65, b"");
+    show_pivot(1, b"A0");
+    // a key, max
+    io::write_all(STDOUT_FILENO, b"entry_key_part\n");
+    show_entry(2, b"A0");
+    show_entry(65535, b"");
+    // T at places 0, 2 and 3, which is past the last; T with its first two pivots exchanged
+    io::write_all(STDOUT_FILENO, b"get_key_part\n");
+    let a = records::record_of(2, b"A0");
+    let b = records::record_of(2, b"A5");
+    let c = records::record_of(1, b"B");
+    show_place(a, b, c, 0);
+    show_place(a, b, c, 2);
+    show_place(a, b, c, 3);
+    show_place(b, a, c, 0);
+}
