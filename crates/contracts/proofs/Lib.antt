@@ -3,3 +3,4 @@ pub mod Lent
 pub mod CutsLent
 pub mod Places
 pub mod bounded_pivots
+pub mod translation_lib

@@ -1,0 +1,3 @@
+pub mod Cuts
+pub mod Ranges
+pub mod Pairs

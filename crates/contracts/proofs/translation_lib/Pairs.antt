@@ -1,0 +1,105 @@
+-- TranslationLib, lines 154 to 194: the pair of a key's slot, and pairs applied and composed.
+use mathlib.Core.Path.{_≡_, refl, _∙_}
+use mathlib.Core.Bool.{Bool, true, false, not, _||_, false≢true, or-comm}
+use mathlib.Core.List.{List, [], _∷_}
+use mathlib.Core.Option.{Option, none, some}
+use Prim.Native.Nat.{ℕ, _≤_, _<_}
+use native.Mathlib.Omega.{arith}
+use borrow.Author.Tests.{le-ltb, not-false}
+use lib.ListN.{length}
+use Rattle.model.specs.declared.Refusal.{Refusal}
+use Rattle.model.specs.declared.Refusal.the-variants.{Malformed, NotPrefix}
+use Rattle.model.specs.declared.Answer.the-variants as answers
+use Rattle.model.specs.keys.Key.{Key, Bytes, maxLen, tooLong, IsPrefix}
+use Rattle.model.specs.tables.Tables.{PivotTable, EdgeTable, WFPivots, BoundedKey}
+use Rattle.model.specs.translation.PrefixSet.{PrefixSet, RevPrefixSet, Begins, ApplyPrefixSet, Composable, longPair}
+use Rattle.model.specs.translation.PairState.{PairState, notPair, pairOf, stateOf}
+use Rattle.model.specs.translation.Translation.{Translate}
+use Rattle.model.specs.calls.Refusals.{Cause, _⇒_, outcome, first, over}
+use Rattle.model.specs.calls.KeyCalls.{sizeCauses}
+use Rattle.model.specs.calls.PairCalls.{applyCauses, applyAnswer, applyLeaves, composeAnswer}
+use Rattle.model.proofs.keys.Key.{prefix-refl, prefix-nested}
+use Rattle.model.proofs.translation.PrefixSet.{applied-begins}
+use Rattle.model.proofs.translation.PairState.{state-pair}
+use Rattle.model.proofs.cuts.Preserved.{translate-begins}
+use Rattle.model.proofs.calls.Refusals.{none-here, none-later}
+use Rattle.model.proofs.calls.TableCalls.{not-too-long}
+use Rattle.model.proofs.calls.PairCalls.{only-state-sizes}
+use Rattle.contracts.specs.Refuses.{Refuses}
+use Rattle.contracts.proofs.Refusing.{Refused, clause-refused, more-refused, call-refuses}
+use Rattle.contracts.proofs.Lent.{accepted}
+
+-- a clause whose failure is cause 7, after cause 2
+prefix-refused : (wrong clause : Bool) (cs : List Cause) → clause ≡ false → Refused 7 ((wrong ⇒ Malformed) ∷ (not clause ⇒ NotPrefix) ∷ cs)
+prefix-refused wrong clause cs h =
+    let two = (wrong ⇒ Malformed) ∷ (not clause ⇒ NotPrefix) ∷ [] in
+    more-refused 7 two cs (clause-refused 7 two clause refl (λ n. not-false clause (none-here _ NotPrefix [] (none-later wrong Malformed _ n))) h)
+
+-- ---- the pair of a key's slot
+
+module _ (pt : PivotTable) (et : EdgeTable) (k : Key) (w : WFPivots pt ≡ true) (h : BoundedKey pt k ≡ true) (b : Bytes k) where
+  -- ensures pset.Some? ==> IsPrefix(pset.value.prefix, key)
+  pub translation-lib-158 : (pset : PrefixSet) → Translate pt et k ≡ some pset → IsPrefix (pset .prefix) k ≡ true
+  translation-lib-158 pset e = translate-begins pt et k pset w h b e
+
+  -- requires pset.Some? ==> IsPrefix(pset.value.prefix, key)
+  -- where TranslateKey uses it
+  pub translation-lib-183b : Begins (Translate pt et k) k ≡ true
+  translation-lib-183b = go (Translate pt et k) refl
+    where
+      go : (o : Option PrefixSet) → Translate pt et k ≡ o → Begins o k ≡ true
+      go none e = unfold Begins in refl
+      go (some a) e = unfold Begins in translation-lib-158 a e
+
+-- ---- a pair applied
+
+-- causes 8 and 10 of a key that is short and has room
+no-size-cause : (x : Key) (d : List ℕ) → length x ≤ maxLen → length x ≤ length d → first (sizeCauses x d) ≡ none
+unfolding outcome
+no-size-cause x d s r = rw (not-too-long x s, le-ltb (length d) (length x) r)
+
+module _ (pset : Option PrefixSet) (k : Key) (d : List ℕ) (p : longPair pset ≡ false) (s : length k ≤ maxLen) (b : Begins pset k ≡ true)
+    (t : length (ApplyPrefixSet pset k) ≤ maxLen) (r : length (ApplyPrefixSet pset k) ≤ length d) where
+  applied : {A : Type 0} (f : Refusal → A) (v : A) → outcome f (applyCauses (stateOf pset) k d) v ≡ v
+  applied f v = only-state-sizes f v pset k d p s b ∙ accepted f v (sizeCauses (ApplyPrefixSet pset k) d) (no-size-cause (ApplyPrefixSet pset k) d t r)
+
+  -- function method ApplyPrefixSet(pset: Option<PrefixSet>, key: Key) : (key': Key)
+  -- the call, lent the pair, the key and room, answers the changed key's length and leaves its bytes
+  pub translation-lib-182 : (applyAnswer (stateOf pset) k d ≡ answers.Value (length (ApplyPrefixSet pset k))) × (applyLeaves (stateOf pset) k d ≡ over (ApplyPrefixSet pset k) d)
+  translation-lib-182 = (applied answers.Refused _ ∙ rw (state-pair pset), applied (λ (_ : Refusal). d) _ ∙ rw (state-pair pset))
+
+-- requires pset.Some? ==> IsPrefix(pset.value.prefix, key)
+pub translation-lib-183 : (s : PairState) (k : Key) (d : List ℕ) (pset : PrefixSet) → pairOf s ≡ some pset → IsPrefix (pset .prefix) k ≡ false
+    → Refuses answers.Refused 7 (applyAnswer s k d)
+translation-lib-183 s k d pset e h =
+    call-refuses _ _ 7 _ (prefix-refused (notPair s || tooLong k) (Begins (pairOf s) k) _ (rw e (unfold Begins in h)))
+
+-- ensures pset.Some? ==> IsPrefix(pset.value.newPrefix, key')
+pub translation-lib-184 : (pset : PrefixSet) (k : Key) → IsPrefix (pset .newPrefix) (ApplyPrefixSet (some pset) k) ≡ true
+translation-lib-184 pset k = unfold Begins RevPrefixSet in applied-begins k (some pset)
+
+-- ---- two pairs composed
+
+-- function ComposePrefixSet(a: Option<PrefixSet>, b: Option<PrefixSet>): (c: Option<PrefixSet>)
+-- the definition has the source's branches; in both that apply a pair the requires of line 183 holds
+pub translation-lib-193 : (a b : PrefixSet) → (IsPrefix (a .prefix) (b .prefix) || IsPrefix (b .prefix) (a .prefix)) ≡ true
+    → (length (a .prefix) ≤ length (b .prefix) → IsPrefix (a .prefix) (b .prefix) ≡ true)
+    × (length (b .prefix) < length (a .prefix) → IsPrefix (b .prefix) (a .prefix) ≡ true)
+translation-lib-193 a b h = (
+  nested (a .prefix) (b .prefix) h,
+  λ l. nested (b .prefix) (a .prefix) (or-comm (IsPrefix (b .prefix) (a .prefix)) (IsPrefix (a .prefix) (b .prefix)) ∙ h) (omega arith),
+)
+  where
+    nested : (p q : Key) → (IsPrefix p q || IsPrefix q p) ≡ true → length p ≤ length q → IsPrefix p q ≡ true
+    nested p q h l = go (IsPrefix p q) (IsPrefix q p) refl refl h
+      where
+        go : (t u : Bool) → IsPrefix p q ≡ t → IsPrefix q p ≡ u → (t || u) ≡ true → IsPrefix p q ≡ true
+        go true u e f h = e
+        go false true e f h = prefix-nested p q p (prefix-refl p) f l
+        go false false e f h = absurd (false≢true h)
+
+-- requires a.Some? && b.Some? ==> ( IsPrefix(a.value.prefix, b.value.prefix) || IsPrefix(b.value.prefix, a.value.prefix))
+pub translation-lib-194 : (s t : PairState) (a b : PrefixSet) → pairOf s ≡ some a → pairOf t ≡ some b
+    → (IsPrefix (a .prefix) (b .prefix) || IsPrefix (b .prefix) (a .prefix)) ≡ false → Refuses answers.Refused 7 (composeAnswer s t)
+translation-lib-194 s t a b e f h =
+    call-refuses _ _ 7 _ (prefix-refused (notPair s || notPair t) (Composable (pairOf s) (pairOf t)) _ (rw (e, f) (unfold Composable in h)))
