@@ -1,3 +1,4 @@
 pub mod Cuts
 pub mod Ranges
 pub mod Pairs
+pub mod PivotPair
