@@ -2,3 +2,4 @@ pub mod Cuts
 pub mod Ranges
 pub mod Pairs
 pub mod PivotPair
+pub mod Renaming
