@@ -3,3 +3,4 @@ pub mod Ranges
 pub mod Pairs
 pub mod PivotPair
 pub mod Renaming
+pub mod Buckets

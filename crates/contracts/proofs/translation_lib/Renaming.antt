@@ -44,9 +44,7 @@ pivots-one p q end pt h = let z : NumBuckets pt ≡ 0 = omega arith in rw z
 -- the first of several is translated, and then the others
 pivots-first : (p q : Key) (end x : Element) (pt : PivotTable) → 0 < length pt → TranslatePivots (x ∷ pt) p q end ≡ TranslateElement p q x ∷ TranslatePivots pt p q end
 unfolding TranslatePivots
-pivots-first p q end x pt h =
-    let a : suc (length pt) - 1 ≡ suc (length pt - 1) = omega arith in
-    rw a
+pivots-first p q end x pt h = let z : suc (length pt) - 1 ≡ suc (length pt - 1) = omega arith in rw z
 
 -- what rises does so from a place on
 sorted-drop : (n : ℕ) (pt : PivotTable) → IsStrictlySorted pt ≡ true → IsStrictlySorted (drop n pt) ≡ true
@@ -123,15 +121,13 @@ pub translation-lib-303b : (v : List ℕ) (p q : Key) (n d : List ℕ)
     → (elements (take (m * recordSize) (pivotsLeaves v p q n d)) ≡ newPivots v p q n) × (WFPivots (newPivots v p q n) ≡ true)
     × (wfPivotsAnswer (take (m * recordSize) (pivotsLeaves v p q n d)) ≡ decided.Yes))
     × (ElementsAreKeys (newPivots v p q n) ≡ false → Refuses answers.Refused 8 (pivotsAnswer v p q n d))
-translation-lib-303b v p q n d = (accept, long-refused v p q n d)
-  where
-    accept : (m : ℕ) → pivotsAnswer v p q n d ≡ answers.Value m
-        → (elements (take (m * recordSize) (pivotsLeaves v p q n d)) ≡ newPivots v p q n) × (WFPivots (newPivots v p q n) ≡ true)
-        × (wfPivotsAnswer (take (m * recordSize) (pivotsLeaves v p q n d)) ≡ decided.Yes)
-    accept m h =
-        let c = pivots-pass v p q n d m h in
-        let r = pivots-read v p q n d m h in
-        (r, rw r at (causes-wf false false _ c), accepted decided.Refused decided.Yes _ c)
+translation-lib-303b v p q n d = (
+  λ m h.
+      let c = pivots-pass v p q n d m h in
+      let r = pivots-read v p q n d m h in
+      (r, rw r at (causes-wf false false _ c), accepted decided.Refused decided.Yes _ c),
+  long-refused v p q n d,
+)
 
 -- ---- TranslateEdges
 
