@@ -2,7 +2,7 @@
 use mathlib.Core.Path.{_≡_, refl}
 use mathlib.Core.Bool.{true, false}
 use mathlib.Core.List.{List, [], _∷_, _++_, map, map-append}
-use Prim.Native.Nat.{ℕ, zero, suc, _+_, _≤_, _<_}
+use Prim.Native.Nat.{ℕ, _+_, _≤_, _<_}
 use native.Mathlib.Numerals.{add-one}
 use native.Mathlib.Omega.{arith}
 use lib.ListN.{length, drop, getD, length-map, drop-of-length-le}
@@ -15,15 +15,14 @@ use Rattle.model.proofs.tables.Places.{sorted-tail}
 use Rattle.model.proofs.buckets.Bucket.{translated-wft}
 use Rattle.model.proofs.buckets.Renamed.{renamed-rises}
 use Rattle.contracts.specs.Translation.{TranslateBucketInternal, TranslateBuckets}
+use Rattle.contracts.proofs.translation_lib.Shared.{from-place}
 
 -- ---- from a place on
 
--- strictly rising entries do so from a place on
-rise-drop : (n : ℕ) (b : Bucket) → entriesRise b ≡ true → entriesRise (drop n b) ≡ true
+-- entries rise strictly where they do so after one more
+rise-tail : (e : Entry) (b : Bucket) → entriesRise (e ∷ b) ≡ true → entriesRise b ≡ true
 unfolding entriesRise
-rise-drop zero b h = h
-rise-drop (suc n) [] h = h
-rise-drop (suc n) (e ∷ b) h = rise-drop n b (sorted-tail (Element.key (e .key)) (map (λ (x : Entry). Element.key (x .key)) b) h)
+rise-tail e b = sorted-tail (Element.key (e .key)) (map (λ (x : Entry). Element.key (x .key)) b)
 
 module _ (bucket : Bucket) (p q : Key) (idx : ℕ) where
   -- function TranslateBucketInternal(bucket: Bucket, prefix: Key, newPrefix: Key, idx: int) : (tbucket: TBucket)
@@ -50,7 +49,7 @@ module _ (bucket : Bucket) (p q : Key) (idx : ℕ) where
   -- ensures WFBucket(bucket) ==> WFBucket(tbucket.b)
   -- of the order of entries: those that rise strictly stay so
   pub translation-lib-364 : entriesRise bucket ≡ true → entriesRise (TranslateBucketInternal bucket p q idx .b) ≡ true
-  translation-lib-364 h = renamed-rises (drop idx bucket) p q (rise-drop idx bucket h)
+  translation-lib-364 h = renamed-rises (drop idx bucket) p q (from-place entriesRise rise-tail idx bucket h)
 
 -- ---- a bucket
 

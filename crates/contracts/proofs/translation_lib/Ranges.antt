@@ -117,7 +117,7 @@ module _ (p : Key) (b : Bytes p) (idx : ℕ) (l : idx ≤ length p) (f : (i : �
     pub translation-lib-223 : (0 < length upper) × (take (length upper - 1) upper ≡ take (length upper - 1) p)
     translation-lib-223 = (upper-nonempty p upper is, upper-front p upper is)
 
-    -- && (upper.e[|upper.e|-1] as int == prefix[|upper.e|-1] as int + 1)
+    -- && (upper.e[|upper.e|-1] as int == prefix[|upper.e|-1] as int + 1) )
     pub translation-lib-224 : getD upper (length upper - 1) 0 ≡ getD p (length upper - 1) 0 + 1
     translation-lib-224 = upper-last p upper is
 

@@ -2,7 +2,7 @@
 use mathlib.Core.Path.{_≡_, refl, sym, ap, _∙_}
 use mathlib.Core.Bool.{true, false, not, _||_}
 use mathlib.Core.List.{List, [], _∷_, _++_}
-use Prim.Native.Nat.{ℕ, zero, suc, _+_, _*_, _-_, _≤_, _<_}
+use Prim.Native.Nat.{ℕ, suc, _+_, _*_, _-_, _≤_, _<_}
 use native.Mathlib.Numerals.{add-one}
 use native.Mathlib.Nat.{add-zero, add-comm}
 use native.Mathlib.Omega.{arith}
@@ -33,6 +33,7 @@ use Rattle.contracts.specs.Refuses.{Refuses}
 use Rattle.contracts.specs.Translation.{TranslatePivotsFrom, TranslateEdgesFrom}
 use Rattle.contracts.proofs.Refusing.{clause-refused, more-refused, call-refuses}
 use Rattle.contracts.proofs.Lent.{accepted}
+use Rattle.contracts.proofs.translation_lib.Shared.{from-place}
 
 -- ---- TranslatePivots
 
@@ -45,12 +46,6 @@ pivots-one p q end pt h = let z : NumBuckets pt ≡ 0 = omega arith in rw z
 pivots-first : (p q : Key) (end x : Element) (pt : PivotTable) → 0 < length pt → TranslatePivots (x ∷ pt) p q end ≡ TranslateElement p q x ∷ TranslatePivots pt p q end
 unfolding TranslatePivots
 pivots-first p q end x pt h = let z : suc (length pt) - 1 ≡ suc (length pt - 1) = omega arith in rw z
-
--- what rises does so from a place on
-sorted-drop : (n : ℕ) (pt : PivotTable) → IsStrictlySorted pt ≡ true → IsStrictlySorted (drop n pt) ≡ true
-sorted-drop zero pt h = h
-sorted-drop (suc n) [] h = h
-sorted-drop (suc n) (x ∷ pt) h = sorted-drop n pt (sorted-tail x pt h)
 
 module _ (pt : PivotTable) (p q : Key) (end : Element) (idx : ℕ) (h : idx < NumBuckets pt) where
   -- the pivots from idx on
@@ -93,7 +88,7 @@ module _ (pt : PivotTable) (p q : Key) (end : Element) (idx : ℕ) (h : idx < Nu
         × (ElementsAreKeys (TranslatePivotsFrom pt p q end idx) ≡ true → WFPivots (TranslatePivotsFrom pt p q end idx) ≡ true)
     translation-lib-303 e =
         let z : length pt - 2 ≡ NumBuckets pt - 1 = omega arith in
-        let s : IsStrictlySorted from ≡ true = rw (pivots-from pt p q end idx h) (sorted-drop idx (TranslatePivots pt p q end) (pivots-rise pt p q end w f (rw z at e))) in
+        let s : IsStrictlySorted from ≡ true = rw (pivots-from pt p q end idx h) (from-place IsStrictlySorted sorted-tail idx (TranslatePivots pt p q end) (pivots-rise pt p q end w f (rw z at e))) in
         (s, λ i l. rw (place i) (pivots-keys pt p q end w f (idx + i) (inside i l)), λ k. wf-of from s k (omega (arith, translation-lib-304, length-drop idx pt)))
 
     -- && IsPrefix(newPrefix, pt'[i].e)
