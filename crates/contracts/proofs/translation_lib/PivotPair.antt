@@ -1,5 +1,5 @@
 -- TranslationLib, lines 247 to 277 and 413: an element, a range and a slot under another prefix, and parent and child.
-use mathlib.Core.Path.{_≡_, refl}
+use mathlib.Core.Path.{_≡_, refl, sym, _∙_}
 use mathlib.Core.Bool.{true, false, not, _&&_, _||_, and-false, false≢true}
 use mathlib.Core.List.{List, [], _∷_}
 use Prim.Native.Nat.{ℕ, _+_, _-_, _≤_, _<_}
@@ -13,6 +13,7 @@ use Rattle.model.specs.keys.Key.{Key, Bytes, maxLen, tooLong, IsPrefix}
 use Rattle.model.specs.keys.Order.{Element, key, max, isKey, lt}
 use Rattle.model.specs.records.Record.{edge, noEdge}
 use Rattle.model.specs.ranges.RangePrefix.{PivotLcp}
+use Rattle.model.specs.ranges.UpperBound.{ShortestUncommonPrefix}
 use Rattle.model.specs.tables.Tables.{PivotTable, EdgeTable, NumBuckets, pivotAt, edgeAt, keyOf, shortElement, WFPivots, ContainsRange}
 use Rattle.model.specs.translation.Renaming.{TranslateElement, translateRight, TranslatePivotPairInternal}
 use Rattle.model.specs.translation.ParentChild.{slotBounds, boundsUnder, ParentKeysInChildRange}
@@ -27,11 +28,12 @@ use Rattle.model.proofs.cuts.Between.{BytesT, bytes-at}
 use Rattle.model.proofs.cuts.CutEdges.{slotPrefix}
 use Rattle.model.proofs.calls.Refusals.{none-here, none-later}
 use Rattle.model.proofs.translation.ParentChild.{parent-child-none}
-use Rattle.model.proofs.translation.PivotPair.{element-short, Lacks, right-short, pair-rises, pair-shares}
+use Rattle.model.proofs.translation.PivotPair.{element-short, Lacks, isMax, other, right-short, pair-rises, pair-shares}
 use Rattle.contracts.specs.Refuses.{Refuses}
 use Rattle.contracts.specs.BoundedPivots.{ElementIsKey}
-use Rattle.contracts.specs.Translation.{AllKeysInBetweenHasPrefix}
+use Rattle.contracts.specs.Translation.{AllKeysInBetweenHasPrefix, ShortestUncommonPrefixAt}
 use Rattle.contracts.proofs.Refusing.{clause-refused, more-refused, call-refuses}
+use Rattle.contracts.proofs.translation_lib.Ranges.{translation-lib-215}
 
 -- ---- past 64 bytes the call refuses
 
@@ -92,6 +94,25 @@ module _ (pt : PivotTable) (slot : ℕ) (w : WFPivots pt ≡ true) (h : slot < N
   translation-lib-272 = sorted-at pt slot (slot + 1) (wf-sorted pt w) (omega arith) (omega arith)
 
 -- ---- a range
+
+-- where right is max or lacks the prefix
+right-lacks : (p q : Key) (r : Element) → Lacks p r → translateRight p q r ≡ ShortestUncommonPrefix q
+unfolding translateRight
+right-lacks p q (key r) (other e) = rw e
+right-lacks p q max isMax = refl
+
+-- function TranslatePivotPairInternal(left: Element, right: Element, prefix: Key, newPrefix: Key) : (p: (Element, Element))
+-- its branches: right is max or lacks the prefix, or has it
+pub translation-lib-268 : (left right : Element) (p q : Key) → Bytes q
+    → (TranslatePivotPairInternal left right p q .left ≡ TranslateElement p q left)
+    × (Lacks p right → TranslatePivotPairInternal left right p q .right ≡ ShortestUncommonPrefixAt q (length q))
+    × ((k : Key) → right ≡ key k → IsPrefix p k ≡ true → TranslatePivotPairInternal left right p q .right ≡ TranslateElement p q right)
+unfolding TranslatePivotPairInternal translateRight
+translation-lib-268 left right p q b = (
+  refl,
+  λ c. right-lacks p q right c ∙ sym (translation-lib-215 q b (length q) (omega arith) (λ i h l. absurd (omega arith))),
+  λ k e h. rw (e, h),
+)
 
 -- && Keyspace.lt(left', right')
 pub translation-lib-274 : (l : Key) (right : Element) (p q : Key) → IsPrefix p l ≡ true → Bytes q → Bytes l → lt (key l) right ≡ true
