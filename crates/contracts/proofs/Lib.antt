@@ -4,3 +4,4 @@ pub mod CutsLent
 pub mod Places
 pub mod bounded_pivots
 pub mod translation_lib
+pub mod translation_impl
