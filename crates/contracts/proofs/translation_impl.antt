@@ -1,3 +1,4 @@
 pub mod Shared
 pub mod Cuts
 pub mod Ranges
+pub mod Translation
