@@ -2,3 +2,5 @@ pub mod Shared
 pub mod Cuts
 pub mod Ranges
 pub mod Translation
+pub mod Pairs
+pub mod Renaming

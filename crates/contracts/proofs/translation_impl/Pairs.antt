@@ -1,0 +1,105 @@
+-- TranslationImpl, lines 216 to 241: an element and a range under another prefix.
+use mathlib.Core.Path.{_≡_, refl, _∙_}
+use mathlib.Core.Bool.{true, false, _&&_}
+use mathlib.Core.List.{List, [], _∷_}
+use mathlib.Core.Option.{none, some}
+use Prim.Native.Nat.{ℕ, _*_, _≤_}
+use native.Mathlib.Omega.{arith}
+use borrow.Author.Tests.{le-ltb}
+use lib.ListN.{length, take}
+use Rattle.model.specs.declared.Answer.the-variants as answers
+use Rattle.model.specs.keys.Key.{Key, maxLen, tooLong, IsPrefix, changePrefix}
+use Rattle.model.specs.keys.Order.{Element, key, lt}
+use Rattle.model.specs.records.Record.{recordSize, reading, element, elementReading, encode, elements, encodeAll}
+use Rattle.model.specs.tables.Tables.{pivotAt, GetKey, shortElement}
+use Rattle.model.specs.translation.Renaming.{Bounds, TranslateElement, TranslatePivotPairInternal}
+use Rattle.model.specs.calls.Refusals.{outcome, first, over}
+use Rattle.model.specs.calls.KeyCalls.{changePrefixCauses, changePrefixAnswer, changePrefixLeaves}
+use Rattle.model.specs.calls.RenamingCalls.{pivotPairCauses, pivotPairAnswer, pivotPairLeaves}
+use Rattle.model.proofs.calls.Refusals.{or-left, or-right}
+use Rattle.model.proofs.calls.TableCalls.{not-too-long}
+use Rattle.model.proofs.calls.KeyCalls.{only-sizes}
+use Rattle.model.proofs.calls.RenamingCalls.{pair-reads}
+use Rattle.model.proofs.keys.Key.{prefix-length}
+use Rattle.model.proofs.records.Record.{element-encode}
+use Rattle.contracts.specs.Refuses.{Refuses}
+use Rattle.contracts.specs.BoundedPivots.{ElementIsKey}
+use Rattle.contracts.proofs.Refusing.{call-refuses}
+use Rattle.contracts.proofs.Lent.{accepted}
+use Rattle.contracts.proofs.translation_impl.Shared.{this-refused, next-refused, key-too-long, record-lent, element-lent, element-fails}
+
+-- ---- an element: a lone key, through change_prefix
+
+module _ (k p q : Key) (d : List ℕ) where
+  -- requires ElementIsKey(e)
+  pub translation-impl-217 : ElementIsKey (key k) ≡ false → Refuses answers.Refused 2 (changePrefixAnswer k p q d)
+  translation-impl-217 h = call-refuses _ _ 2 (changePrefixCauses k p q d) (this-refused 2 _ _ _ refl (or-left _ _ (or-left _ _ (key-too-long k h))))
+
+  -- requires IsPrefix(prefix, e.e)
+  pub translation-impl-218 : IsPrefix p k ≡ false → Refuses answers.Refused 7 (changePrefixAnswer k p q d)
+  translation-impl-218 h = call-refuses _ _ 7 (changePrefixCauses k p q d) (next-refused 7 _ _ _ refl (this-refused 7 _ _ _ refl (rw h)))
+
+  -- ensures e' == TranslateElement(e, prefix, newPrefix)
+  pub translation-impl-219 : length k ≤ maxLen → length q ≤ maxLen → IsPrefix p k ≡ true → length (changePrefix p q k) ≤ maxLen → length (changePrefix p q k) ≤ length d
+      → (TranslateElement p q (key k) ≡ key (changePrefix p q k))
+      × (changePrefixAnswer k p q d ≡ answers.Value (length (changePrefix p q k))) × (changePrefixLeaves k p q d ≡ over (changePrefix p q k) d)
+  translation-impl-219 s c h t r =
+      let b = changePrefixCauses k p q d in
+      let n : first b ≡ none = only-sizes some none k p q d s c h ∙ (unfold outcome in rw (not-too-long (changePrefix p q k) t, le-ltb _ _ r)) in
+      (unfold TranslateElement in refl, accepted _ _ b n, accepted _ _ b n)
+
+-- ---- a range
+
+-- lent any bytes
+module _ (l : Key) (r : List ℕ) (p q : Key) (d : List ℕ) where
+  -- requires right.Element? ==> ElementIsKey(right)
+  pub translation-impl-226 : (elementReading (reading r) && shortElement (element r)) ≡ false → Refuses answers.Refused 2 (pivotPairAnswer l r p q d)
+  translation-impl-226 h =
+      call-refuses _ _ 2 (pivotPairCauses l r p q d)
+      (next-refused 2 _ _ _ refl (this-refused 2 _ _ _ refl (or-left _ _ (or-left _ _ (or-right (tooLong l) _ (element-fails r h))))))
+
+  -- requires IsPrefix(prefix, left)
+  pub translation-impl-227 : IsPrefix p l ≡ false → Refuses answers.Refused 7 (pivotPairAnswer l r p q d)
+  translation-impl-227 h =
+      call-refuses _ _ 7 (pivotPairCauses l r p q d) (next-refused 7 _ _ _ refl (next-refused 7 _ _ _ refl (this-refused 7 _ _ _ refl (rw h))))
+
+  -- requires Keyspace.lt(KeyToElement(left), right)
+  pub translation-impl-228 : lt (key l) (element r) ≡ false → Refuses answers.Refused 9 (pivotPairAnswer l r p q d)
+  translation-impl-228 h =
+      call-refuses _ _ 9 (pivotPairCauses l r p q d)
+      (next-refused 9 _ _ _ refl (next-refused 9 _ _ _ refl (next-refused 9 _ _ _ refl (next-refused 9 _ _ _ refl (this-refused 9 _ _ _ refl (rw h))))))
+
+-- lent a key and the record of an element
+module _ (l : Key) (r : Element) (p q : Key) (d : List ℕ) (a : length l ≤ maxLen) (e : shortElement r ≡ true) (c : length q ≤ maxLen)
+    (h : IsPrefix p l ≡ true) (g : lt (key l) r ≡ true) (room : 2 * recordSize ≤ length d)
+    (t : shortElement (TranslatePivotPairInternal (key l) r p q .left) ≡ true) (u : shortElement (TranslatePivotPairInternal (key l) r p q .right) ≡ true) where
+  abbrev new : Bounds
+  new = TranslatePivotPairInternal (key l) r p q
+
+  abbrev dest : List ℕ
+  dest = pivotPairLeaves l (encode r) p q d
+
+  pair-lent : first (pivotPairCauses l (encode r) p q d) ≡ none
+  unfolding outcome
+  pair-lent =
+      let b : length p ≤ maxLen = omega (arith, prefix-length p l h) in
+      rw (record-lent r e, not-too-long l a, element-lent r e, not-too-long p b, not-too-long q c, h, element-encode r e, t, u, g, le-ltb _ _ room)
+
+  pair-written : (pivotPairAnswer l (encode r) p q d ≡ answers.Value 2) × (dest ≡ over (encodeAll (new .left ∷ new .right ∷ [])) d)
+  pair-written =
+      let b = pivotPairCauses l (encode r) p q d in
+      (accepted _ _ b pair-lent, accepted _ _ b pair-lent ∙ rw (element-encode r e))
+
+  -- the two records stand for the new bounds
+  pair-read : elements (take (2 * recordSize) dest) ≡ new .left ∷ new .right ∷ []
+  pair-read = pair-reads l (encode r) p q d 2 (pair-written .0) ∙ rw (element-encode r e)
+
+  -- && l == KeyToElement(left')
+  pub translation-impl-230 : (pivotPairAnswer l (encode r) p q d ≡ answers.Value 2) × (dest ≡ over (encodeAll (new .left ∷ new .right ∷ [])) d)
+      × (new .left ≡ key (GetKey (elements (take (2 * recordSize) dest)) 0))
+  translation-impl-230 = (pair-written .0, pair-written .1, rw pair-read (unfold GetKey TranslatePivotPairInternal TranslateElement in refl))
+
+  -- && r == right'
+  pub translation-impl-231 : (pivotPairAnswer l (encode r) p q d ≡ answers.Value 2) × (dest ≡ over (encodeAll (new .left ∷ new .right ∷ [])) d)
+      × (new .right ≡ pivotAt (elements (take (2 * recordSize) dest)) 1)
+  translation-impl-231 = (pair-written .0, pair-written .1, rw pair-read)

@@ -1,0 +1,146 @@
+-- TranslationImpl, lines 243 to 283: a table's pivots under another prefix, and its edges filled.
+use mathlib.Core.Path.{_≡_, refl, sym, _∙_}
+use mathlib.Core.Bool.{true, false, _&&_, _||_, true≢false}
+use mathlib.Core.List.{List}
+use mathlib.Core.Logic.{⊎-elim}
+use mathlib.Core.Option.{none, some}
+use Prim.Native.Nat.{ℕ, _+_, _*_, _-_, _≤_, _<_}
+use native.Mathlib.Omega.{arith}
+use borrow.Author.Tests.{le-ltb, ne-eqb}
+use lib.ListN.{length}
+use lib.Seq.{length-take-le, getD-take}
+use Rattle.model.specs.declared.Answer.the-variants as answers
+use Rattle.model.specs.keys.Key.{Key, maxLen, tooLong, IsPrefix}
+use Rattle.model.specs.keys.Order.{Element, max, lt}
+use Rattle.model.specs.records.Record.{recordSize, reading, element, elementReading, encode, elements, edges, encodeAll, encodeEdges}
+use Rattle.model.specs.tables.Tables.{PivotTable, EdgeTable, NumBuckets, maxPivots, pivotAt, GetKey, all, shortElement, shortEdge, WFPivots, WFEdges}
+use Rattle.model.specs.translation.Renaming.{TranslateElement, TranslatePivots}
+use Rattle.model.specs.calls.Refusals.{outcome, first, over}
+use Rattle.model.specs.calls.KeyCalls.{notElement, notRecord}
+use Rattle.model.specs.calls.TableCalls.{pivotCauses, tableCauses, notEdgeCount}
+use Rattle.model.specs.calls.RenamingCalls.{butLast, begun, pivotsCauses, pivotsAnswer, pivotsLeaves, edgesCauses, edgesAnswer, edgesLeaves}
+use Rattle.model.proofs.Lists.{le-or-lt}
+use Rattle.model.proofs.calls.Refusals.{or-left, or-right, not-fails}
+use Rattle.model.proofs.calls.TableCalls.{not-too-long, length-elements, length-edges}
+use Rattle.model.proofs.keys.Order.{refuted}
+use Rattle.model.proofs.records.Record.{element-encode}
+use Rattle.model.proofs.tables.Routing.{wf-count}
+use Rattle.model.proofs.translation.Renaming.{pivots-count, edges-count}
+use Rattle.model.proofs.cuts.CutEdges.{edges-say}
+use Rattle.contracts.specs.Refuses.{Refuses}
+use Rattle.contracts.specs.Translation.{TranslatePivotsFrom, TranslateEdgesFrom}
+use Rattle.contracts.proofs.Places.{all-places, places-all}
+use Rattle.contracts.proofs.Refusing.{Refused, call-refuses, more-refused, count-refused, pivots-refused, table-count-refused, table-pivots-refused, edges-refused}
+use Rattle.contracts.proofs.Lent.{accepted, go-on, pivots-read, pivots-lent, edges-read, table-lent}
+use Rattle.contracts.proofs.translation_impl.Shared.{this-refused, next-refused, after-refused, record-lent, element-lent, element-fails}
+
+-- ---- pivots
+
+-- the prefix begins each pivot but the last: at each place, and of all
+module _ (pt : PivotTable) (p : Key) where
+  before : length (butLast pt) ≡ NumBuckets pt
+  before = length-take-le (NumBuckets pt) pt (omega arith)
+
+  begun-at : all (begun p) (butLast pt) ≡ true → (i : ℕ) → i < NumBuckets pt → IsPrefix p (GetKey pt i) ≡ true
+  unfolding GetKey
+  begun-at h i l = rw (getD-take (NumBuckets pt) pt i max l) at (all-places (begun p) max (butLast pt) h i (omega (arith, before)))
+
+  begun-all : ((i : ℕ) → i < NumBuckets pt → IsPrefix p (GetKey pt i) ≡ true) → all (begun p) (butLast pt) ≡ true
+  unfolding GetKey
+  begun-all f = places-all (begun p) max (butLast pt) (λ i l. let m : i < NumBuckets pt = omega (arith, before) in rw (getD-take (NumBuckets pt) pt i max m) (f i m))
+
+-- lent any bytes
+
+module _ (v : List ℕ) (p q : Key) (n d : List ℕ) where
+  refuses : (i : ℕ) → Refused i (pivotCauses (notRecord n) (tooLong p || tooLong q || notElement n) v) → Refuses answers.Refused i (pivotsAnswer v p q n d)
+  refuses i h = call-refuses _ _ i (pivotsCauses v p q n d) (more-refused i (pivotCauses (notRecord n) (tooLong p || tooLong q || notElement n) v) _ h)
+
+  -- requires |pt| < Uint64UpperBound()
+  pub translation-impl-244 : maxPivots < length (elements v) → Refuses answers.Refused 1 (pivotsAnswer v p q n d)
+  translation-impl-244 h = refuses 1 (count-refused _ _ v h)
+
+  -- requires WFPivots(pt)
+  pub translation-impl-245 : WFPivots (elements v) ≡ false → Refuses answers.Refused 3 (pivotsAnswer v p q n d)
+  translation-impl-245 h = refuses 3 (pivots-refused _ _ v h)
+
+  -- requires forall i | 0 <= i < NumBuckets(pt) :: IsPrefix(prefix, pt[i].e)
+  pub translation-impl-246 : (i : ℕ) → i < NumBuckets (elements v) → IsPrefix p (GetKey (elements v) i) ≡ false → Refuses answers.Refused 7 (pivotsAnswer v p q n d)
+  unfolding pivotCauses
+  translation-impl-246 i l h =
+      let f = refuted (all (begun p) (butLast (elements v))) (λ b. true≢false (sym (begun-at (elements v) p b i l) ∙ h)) in
+      call-refuses _ _ 7 (pivotsCauses v p q n d) (after-refused 7 (pivotCauses (notRecord n) (tooLong p || tooLong q || notElement n) v) _ refl (this-refused 7 _ _ _ refl (rw f)))
+
+  -- requires end.Element? ==> ElementIsKey(end)
+  pub translation-impl-247 : (elementReading (reading n) && shortElement (element n)) ≡ false → Refuses answers.Refused 2 (pivotsAnswer v p q n d)
+  unfolding pivotCauses
+  translation-impl-247 h = refuses 2 (next-refused 2 _ _ _ refl (this-refused 2 _ _ _ refl (or-left _ _ (or-right (tooLong p || tooLong q) _ (element-fails n h)))))
+
+  -- requires Keyspace.lt(TranslateElement(pt[|pt|-2], prefix, newPrefix), end)
+  pub translation-impl-248 : lt (TranslateElement p q (pivotAt (elements v) (length (elements v) - 2))) (element n) ≡ false → Refuses answers.Refused 9 (pivotsAnswer v p q n d)
+  unfolding pivotCauses
+  translation-impl-248 h =
+      let i : NumBuckets (elements v) - 1 ≡ length (elements v) - 2 = omega arith in
+      call-refuses _ _ 9 (pivotsCauses v p q n d)
+      (after-refused 9 (pivotCauses (notRecord n) (tooLong p || tooLong q || notElement n) v) _ refl
+      (next-refused 9 _ _ _ refl (next-refused 9 _ _ _ refl (this-refused 9 _ _ _ refl (rw (i, h))))))
+
+-- lent the records of pivots and of an end
+module _ (pt : PivotTable) (w : WFPivots pt ≡ true) (m : length pt ≤ maxPivots) (p q : Key) (a : length p ≤ maxLen) (b : length q ≤ maxLen)
+    (f : (i : ℕ) → i < NumBuckets pt → IsPrefix p (GetKey pt i) ≡ true) (end : Element) (e : shortElement end ≡ true)
+    (g : lt (TranslateElement p q (pivotAt pt (length pt - 2))) end ≡ true) (t : all shortElement (TranslatePivots pt p q end) ≡ true)
+    (d : List ℕ) (room : length pt * recordSize ≤ length d) where
+  renamed-lent : first (pivotsCauses (encodeAll pt) p q (encode end) d) ≡ none
+  unfolding outcome
+  renamed-lent =
+      let c = pivots-count pt p q end (omega (arith, wf-count pt w)) in
+      let i : NumBuckets pt - 1 ≡ length pt - 2 = omega arith in
+      go-on some none (pivotCauses (notRecord (encode end)) (tooLong p || tooLong q || notElement (encode end)) (encodeAll pt)) _
+      (pivots-lent pt w _ _ m (record-lent end e) (rw (not-too-long p a, not-too-long q b, element-lent end e)))
+      ∙ rw (pivots-read pt w, element-encode end e, begun-all pt p f, t, i, g, c, le-ltb _ _ room)
+
+  -- ensures pt' == TranslatePivots(pt, prefix, newPrefix, end, 0)
+  pub translation-impl-249 : (pivotsAnswer (encodeAll pt) p q (encode end) d ≡ answers.Value (length (TranslatePivotsFrom pt p q end 0)))
+      × (pivotsLeaves (encodeAll pt) p q (encode end) d ≡ over (encodeAll (TranslatePivotsFrom pt p q end 0)) d)
+  translation-impl-249 =
+      let c = pivotsCauses (encodeAll pt) p q (encode end) d in
+      (accepted _ _ c renamed-lent ∙ rw (pivots-read pt w, element-encode end e), accepted _ _ c renamed-lent ∙ rw (pivots-read pt w, element-encode end e))
+
+-- ---- edges
+
+-- edges that aren't fewer than the pivots
+few : (p e : List ℕ) → length (elements p) ≤ length (edges e) → Refused 1 (tableCauses false false p e)
+unfolding tableCauses pivotCauses notEdgeCount
+few p e h =
+    let l = length-elements p in
+    let m = length-edges e in
+    this-refused 1 _ _ _ refl (or-left _ _ (not-fails _ (ne-eqb (length e + recordSize) (length p) (λ n. omega arith))))
+
+-- lent any bytes
+module _ (p e d : List ℕ) where
+  -- requires |et| < Uint64UpperBound()
+  -- the limit is 63 edges, one fewer than pivots
+  pub translation-impl-264 : maxPivots ≤ length (edges e) → Refuses answers.Refused 1 (edgesAnswer p e d)
+  translation-impl-264 h =
+      call-refuses _ _ 1 (edgesCauses p e d)
+      (more-refused 1 (tableCauses false false p e) _ (⊎-elim (λ m. few p e (omega (arith, h, m))) (table-count-refused false false p e) (le-or-lt (length (elements p)) maxPivots)))
+
+  -- requires WFPivots(pt)
+  pub translation-impl-265 : WFPivots (elements p) ≡ false → Refuses answers.Refused 3 (edgesAnswer p e d)
+  translation-impl-265 h = call-refuses _ _ 3 (edgesCauses p e d) (more-refused 3 (tableCauses false false p e) _ (table-pivots-refused false false p e h))
+
+  -- requires WFEdges(et, pt)
+  pub translation-impl-266 : WFEdges (edges e) (elements p) ≡ false → Refuses answers.Refused 4 (edgesAnswer p e d)
+  translation-impl-266 h = call-refuses _ _ 4 (edgesCauses p e d) (more-refused 4 (tableCauses false false p e) _ (edges-refused false false p e h))
+
+-- lent the records of a table and its edges
+-- ensures et' == TranslateEdges(et, pt, 0)
+pub translation-impl-267 : (pt : PivotTable) (et : EdgeTable) → WFPivots pt ≡ true → length pt ≤ maxPivots → WFEdges et pt ≡ true → all shortEdge et ≡ true
+    → (d : List ℕ) → length et * recordSize ≤ length d
+    → (edgesAnswer (encodeAll pt) (encodeEdges et) d ≡ answers.Value (length (TranslateEdgesFrom et pt 0)))
+    × (edgesLeaves (encodeAll pt) (encodeEdges et) d ≡ over (encodeEdges (TranslateEdgesFrom et pt 0)) d)
+translation-impl-267 pt et w m x s d room =
+    let c = edgesCauses (encodeAll pt) (encodeEdges et) d in
+    let n : first c ≡ none =
+    go-on some none (tableCauses false false (encodeAll pt) (encodeEdges et)) _ (table-lent pt et w m x s false refl)
+    ∙ (unfold outcome in rw (pivots-read pt w, edges-read pt et w m x s, edges-count et pt (edges-say et pt x .count), le-ltb _ _ room)) in
+    (accepted _ _ c n ∙ rw (pivots-read pt w, edges-read pt et w m x s), accepted _ _ c n ∙ rw (pivots-read pt w, edges-read pt et w m x s))
