@@ -4,3 +4,4 @@ pub mod Ranges
 pub mod Translation
 pub mod Pairs
 pub mod Renaming
+pub mod Buckets

@@ -1,0 +1,100 @@
+-- TranslationImpl, lines 285 to 428: a bucket under another prefix, and whether it will fit.
+use mathlib.Core.Path.{_≡_, refl, _∙_}
+use mathlib.Core.Bool.{Bool, true, false, cond, not, _&&_, _||_}
+use mathlib.Core.List.{List, [], _∷_, _++_, append-nil}
+use mathlib.Core.Logic.{_⊎_, ⊎-elim}
+use mathlib.Core.Option.{none, some}
+use Prim.Native.Nat.{ℕ, _+_, _*_, _-_, _≤_, _<_}
+use native.Mathlib.Omega.{arith}
+use borrow.Author.Tests.{le-leb, lt-leb, le-ltb, lt-ltb}
+use lib.Dec.{leb, ltb}
+use lib.ListN.{length, take, getD}
+use Rattle.model.specs.declared.Refusal.the-variants.{TooLong, NoRoom}
+use Rattle.model.specs.declared.Answer.the-variants as answers
+use Rattle.model.specs.declared.Decided.the-variants as decided
+use Rattle.model.specs.keys.Key.{Key, maxLen, IsPrefix}
+use Rattle.model.specs.tables.Tables.{all}
+use Rattle.model.specs.buckets.Bucket.{Entry, Bucket, entrySize, maxEntries, entries, encodeBucket, translateEntry, TranslateBucket}
+use Rattle.model.specs.calls.Refusals.{outcome, first, over, yesOrNo}
+use Rattle.model.specs.calls.BucketCalls.{bucketCauses, shortEntry, neededBytes, renameCauses, translateBucketCauses, translateBucketAnswer, translateBucketLeaves, willFitAnswer}
+use Rattle.model.proofs.Lists.{le-or-lt}
+use Rattle.model.proofs.calls.TableCalls.{not-too-long}
+use Rattle.model.proofs.calls.BucketCalls.{written-bucket, no-refused, eight-no, ten-no, yes-accepted}
+use Rattle.model.proofs.buckets.Entries.{sizedEntry, entries-encodeBucket}
+use Rattle.model.proofs.buckets.Renamed.{simple-most, simple-next}
+use Rattle.contracts.specs.Refuses.{Refuses}
+use Rattle.contracts.specs.Translation.{TranslateBucketSimple}
+use Rattle.contracts.proofs.Refusing.{call-refuses}
+use Rattle.contracts.proofs.Lent.{accepted, go-on}
+use Rattle.contracts.proofs.translation_impl.Shared.{this-refused, next-refused, after-refused}
+
+-- an entry added at the end where a test holds
+add-where : (t : Bool) (a : Bucket) (x : Entry) → a ++ cond t (x ∷ []) [] ≡ cond t (a ++ (x ∷ [])) a
+add-where true a x = refl
+add-where false a x = append-nil a
+
+module _ (b : Bucket) (p q : Key) where
+  -- function {:opaque} TranslateBucketSimple(bucket: Bucket, prefix: Key, newPrefix: Key, i: nat) : (result: Bucket)
+  pub translation-impl-285 : (TranslateBucketSimple b p q 0 ≡ [])
+      × ((i : ℕ) (d : Entry) → 0 < i → i ≤ length b
+      → TranslateBucketSimple b p q i
+      ≡ cond (IsPrefix p (getD b (i - 1) d .key)) (TranslateBucketSimple b p q (i - 1) ++ (translateEntry p q (getD b (i - 1) d) ∷ [])) (TranslateBucketSimple b p q (i - 1)))
+  unfolding TranslateBucket
+  translation-impl-285 = (refl, λ i d h l. let e : i - 1 + 1 ≡ i = omega arith in (rw e at (simple-next b p q (i - 1) d (omega arith))) ∙ add-where (IsPrefix p (getD b (i - 1) d .key)) (TranslateBucket (take (i - 1) b) p q) (translateEntry p q (getD b (i - 1) d)))
+
+  -- ensures |result.keys| <= i
+  pub translation-impl-288 : (i : ℕ) → i ≤ length b → length (TranslateBucketSimple b p q i) ≤ i
+  translation-impl-288 = simple-most b p q
+
+-- lent any bytes
+module _ (l : List ℕ) (p q : Key) (d : List ℕ) where
+  -- ensures b == TranslateBucketWillFit(mbucket.I(), prefix, newPrefix)
+  -- it says no exactly where the renaming, into so long a destination, is refused with 8 or 10
+  pub translation-impl-330 : (willFitAnswer l p q (length d) ≡ decided.No → (translateBucketAnswer l p q d ≡ answers.Refused TooLong) ⊎ (translateBucketAnswer l p q d ≡ answers.Refused NoRoom))
+      × ((translateBucketAnswer l p q d ≡ answers.Refused TooLong) ⊎ (translateBucketAnswer l p q d ≡ answers.Refused NoRoom) → willFitAnswer l p q (length d) ≡ decided.No)
+  translation-impl-330 = (no-refused l p q d, ⊎-elim (eight-no l p q d) (ten-no l p q d))
+
+  -- ensures b ==> WillFitInPkv(mbucket, prefix, newPrefix)
+  -- where it says yes, the renaming is accepted
+  pub translation-impl-331 : willFitAnswer l p q (length d) ≡ decided.Yes → translateBucketAnswer l p q d ≡ answers.Value (length (TranslateBucket (entries l) p q))
+  translation-impl-331 = yes-accepted l p q d
+
+  -- requires WillFitInPkv(mbucket, prefix, newPrefix);
+  -- a kept key would pass 64 bytes
+  pub translation-impl-391 : all shortEntry (TranslateBucket (entries l) p q) ≡ false → Refuses answers.Refused 8 (translateBucketAnswer l p q d)
+  unfolding bucketCauses
+  translation-impl-391 h = call-refuses _ _ 8 (translateBucketCauses l p q d) (after-refused 8 (renameCauses l p q) _ refl (this-refused 8 _ _ _ refl (rw h)))
+
+  -- requires WillFitInPkv(mbucket, prefix, newPrefix);
+  -- the destination would not hold the whole bucket
+  pub translation-impl-391b : length d < length (entries l) * entrySize → Refuses answers.Refused 10 (translateBucketAnswer l p q d)
+  unfolding bucketCauses neededBytes
+  translation-impl-391b h =
+      call-refuses _ _ 10 (translateBucketCauses l p q d)
+      (after-refused 10 (renameCauses l p q) _ refl (next-refused 10 _ _ _ refl (this-refused 10 _ _ _ refl (lt-ltb (length d) (length (entries l) * entrySize) h))))
+
+-- neither 8 nor 10
+neither : (a : Bool) (m n : ℕ) → not (not a || ltb n m) ≡ (a && leb m n)
+neither false m n = refl
+neither true m n = ⊎-elim (λ h. rw (le-ltb n m h, le-leb m n h)) (λ h. rw (lt-ltb n m h, lt-leb m n h)) (le-or-lt m n)
+
+-- lent the entries of a bucket
+module _ (b : Bucket) (z : all sizedEntry b ≡ true) (m : length b ≤ maxEntries) (p q : Key) (s : length p ≤ maxLen) (t : length q ≤ maxLen) where
+  rename-lent : first (renameCauses (encodeBucket b) p q) ≡ none
+  rename-lent = rw (not-too-long p s, not-too-long q t) (written-bucket b z m)
+
+  -- ensures b == TranslateBucketWillFit(mbucket.I(), prefix, newPrefix)
+  -- no kept key passes 64 bytes, and n bytes hold the whole bucket
+  pub translation-impl-330b : (n : ℕ) → willFitAnswer (encodeBucket b) p q n ≡ yesOrNo (all shortEntry (TranslateBucket b p q) && leb (length b * entrySize) n)
+  unfolding neededBytes
+  translation-impl-330b n = accepted _ _ (renameCauses (encodeBucket b) p q) rename-lent ∙ rw (entries-encodeBucket b z, neither (all shortEntry (TranslateBucket b p q)) (length b * entrySize) n)
+
+  -- ensures mbucket'.I() == TranslateBucket(mbucket.I(), prefix, newPrefix)
+  pub translation-impl-393 : (d : List ℕ) → all shortEntry (TranslateBucket b p q) ≡ true → length b * entrySize ≤ length d
+      → (translateBucketAnswer (encodeBucket b) p q d ≡ answers.Value (length (TranslateBucket b p q)))
+      × (translateBucketLeaves (encodeBucket b) p q d ≡ over (encodeBucket (TranslateBucket b p q)) d)
+  unfolding outcome neededBytes
+  translation-impl-393 d k room =
+      let c = translateBucketCauses (encodeBucket b) p q d in
+      let n : first c ≡ none = go-on some none (renameCauses (encodeBucket b) p q) _ rename-lent ∙ rw (entries-encodeBucket b z, k, le-ltb (length d) (length b * entrySize) room) in
+      (accepted _ _ c n ∙ rw (entries-encodeBucket b z), accepted _ _ c n ∙ rw (entries-encodeBucket b z))
