@@ -5,3 +5,4 @@ pub mod Translation
 pub mod Pairs
 pub mod Renaming
 pub mod Buckets
+pub mod ParentChild
