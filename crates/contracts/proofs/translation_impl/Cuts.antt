@@ -1,5 +1,5 @@
 -- TranslationImpl, lines 29 to 69: the edges that a cut leaves. The other clauses of both methods are those of ComputeSplitLeft and ComputeSplitRight: proofs/bounded_pivots/Cuts.
-use mathlib.Core.Path.{_≡_, _∙_}
+use mathlib.Core.Path.{_≡_, refl, _∙_}
 use mathlib.Core.Bool.{Bool, true, false}
 use mathlib.Core.List.{List}
 use Prim.Native.Nat.{ℕ, _*_, _≤_}
@@ -11,12 +11,13 @@ use Rattle.model.specs.tables.Tables.{PivotTable, EdgeTable, maxPivots, all, sh
 use Rattle.model.specs.cuts.Cuts.{SplitLeft, SplitRight, SplitLeftEdges, SplitRightEdges}
 use Rattle.model.specs.cuts.Sides.{inside, Split, SplitEdges}
 use Rattle.model.specs.calls.Refusals.{over}
-use Rattle.model.specs.calls.TableCalls.{tableCauses, edgeSlotCauses}
+use Rattle.model.specs.calls.TableCalls.{pivotCauses, tableCauses, edgeSlotCauses}
 use Rattle.model.specs.calls.CutCalls.{cutCauses, cutAnswer, cutLeavesEdges}
 use Rattle.contracts.specs.Refuses.{Refuses}
 use Rattle.contracts.proofs.Refusing.{call-refuses, more-refused, edges-refused}
 use Rattle.contracts.proofs.Lent.{accepted, pivots-read, edges-read}
 use Rattle.contracts.proofs.CutsLent.{cut-lent}
+use Rattle.contracts.proofs.translation_impl.Shared.{this-refused, after-refused}
 
 -- lent any bytes
 module _ (p e : List ℕ) (k : Key) (dp de : List ℕ) where
@@ -33,6 +34,21 @@ module _ (p e : List ℕ) (k : Key) (dp de : List ℕ) where
   -- requires WFEdges(et, pt)
   pub translation-impl-52 : WFEdges (edges e) (elements p) ≡ false → Refuses answers.Refused 4 (cutAnswer false p e k dp de)
   translation-impl-52 = edges-stand false
+
+  long-edge : (left : Bool) → all shortEdge (SplitEdges left (edges e) (elements p) k) ≡ false → Refuses answers.Refused 8 (cutAnswer left p e k dp de)
+  unfolding tableCauses pivotCauses
+  long-edge left h =
+      call-refuses _ _ 8 (cutCauses left p e k dp de) (after-refused 8 (edgeSlotCauses p e k (inside left (elements p) k)) _ refl (this-refused 8 _ _ _ refl (rw h)))
+
+  -- ensures et' == SplitLeftEdges(et, pt, pivot)
+  -- where one of these edges passes 64 bytes, the cut is refused
+  pub translation-impl-36b : all shortEdge (SplitLeftEdges (edges e) (elements p) k) ≡ false → Refuses answers.Refused 8 (cutAnswer true p e k dp de)
+  translation-impl-36b = long-edge true
+
+  -- ensures et' == SplitRightEdges(et, pt, pivot)
+  -- where one of these edges passes 64 bytes, the cut is refused
+  pub translation-impl-57b : all shortEdge (SplitRightEdges (edges e) (elements p) k) ≡ false → Refuses answers.Refused 8 (cutAnswer false p e k dp de)
+  translation-impl-57b = long-edge false
 
 -- lent the records of a table and its edges
 module _ (pt : PivotTable) (et : EdgeTable) (w : WFPivots pt ≡ true) (m : length pt ≤ maxPivots) (x : WFEdges et pt ≡ true) (s : all shortEdge et ≡ true)

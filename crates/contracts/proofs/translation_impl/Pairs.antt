@@ -1,11 +1,11 @@
 -- TranslationImpl, lines 216 to 241: an element and a range under another prefix.
-use mathlib.Core.Path.{_≡_, refl, _∙_}
-use mathlib.Core.Bool.{true, false, _&&_}
+use mathlib.Core.Path.{_≡_, refl, sym, _∙_}
+use mathlib.Core.Bool.{true, false, _&&_, true≢false}
 use mathlib.Core.List.{List, [], _∷_}
 use mathlib.Core.Option.{none, some}
-use Prim.Native.Nat.{ℕ, _*_, _≤_}
+use Prim.Native.Nat.{ℕ, _*_, _≤_, _<_}
 use native.Mathlib.Omega.{arith}
-use borrow.Author.Tests.{le-ltb}
+use borrow.Author.Tests.{le-ltb, lt-ltb}
 use lib.ListN.{length, take}
 use Rattle.model.specs.declared.Answer.the-variants as answers
 use Rattle.model.specs.keys.Key.{Key, maxLen, tooLong, IsPrefix, changePrefix}
@@ -20,7 +20,8 @@ use Rattle.model.proofs.calls.Refusals.{or-left, or-right}
 use Rattle.model.proofs.calls.TableCalls.{not-too-long}
 use Rattle.model.proofs.calls.KeyCalls.{only-sizes}
 use Rattle.model.proofs.calls.RenamingCalls.{pair-reads}
-use Rattle.model.proofs.keys.Key.{prefix-length}
+use Rattle.model.proofs.keys.Key.{both, prefix-length}
+use Rattle.model.proofs.keys.Order.{refuted}
 use Rattle.model.proofs.records.Record.{element-encode}
 use Rattle.contracts.specs.Refuses.{Refuses}
 use Rattle.contracts.specs.BoundedPivots.{ElementIsKey}
@@ -38,6 +39,13 @@ module _ (k p q : Key) (d : List ℕ) where
   -- requires IsPrefix(prefix, e.e)
   pub translation-impl-218 : IsPrefix p k ≡ false → Refuses answers.Refused 7 (changePrefixAnswer k p q d)
   translation-impl-218 h = call-refuses _ _ 7 (changePrefixCauses k p q d) (next-refused 7 _ _ _ refl (this-refused 7 _ _ _ refl (rw h)))
+
+  -- ensures e' == TranslateElement(e, prefix, newPrefix)
+  -- where it passes 64 bytes, the call is refused
+  pub translation-impl-219b : maxLen < length (changePrefix p q k) → Refuses answers.Refused 8 (changePrefixAnswer k p q d)
+  translation-impl-219b h =
+      call-refuses _ _ 8 (changePrefixCauses k p q d)
+      (next-refused 8 _ _ _ refl (next-refused 8 _ _ _ refl (this-refused 8 _ _ _ refl (lt-ltb maxLen (length (changePrefix p q k)) h))))
 
   -- ensures e' == TranslateElement(e, prefix, newPrefix)
   pub translation-impl-219 : length k ≤ maxLen → length q ≤ maxLen → IsPrefix p k ≡ true → length (changePrefix p q k) ≤ maxLen → length (changePrefix p q k) ≤ length d
@@ -58,6 +66,14 @@ module _ (l : Key) (r : List ℕ) (p q : Key) (d : List ℕ) where
       call-refuses _ _ 2 (pivotPairCauses l r p q d)
       (next-refused 2 _ _ _ refl (this-refused 2 _ _ _ refl (or-left _ _ (or-left _ _ (or-right (tooLong l) _ (element-fails r h))))))
 
+  abbrev lent : Bounds
+  lent = TranslatePivotPairInternal (key l) (element r) p q
+
+  long-bounds : (shortElement (lent .left) && shortElement (lent .right)) ≡ false → Refuses answers.Refused 8 (pivotPairAnswer l r p q d)
+  long-bounds h =
+      call-refuses _ _ 8 (pivotPairCauses l r p q d)
+      (next-refused 8 _ _ _ refl (next-refused 8 _ _ _ refl (next-refused 8 _ _ _ refl (this-refused 8 _ _ _ refl (rw h)))))
+
   -- requires IsPrefix(prefix, left)
   pub translation-impl-227 : IsPrefix p l ≡ false → Refuses answers.Refused 7 (pivotPairAnswer l r p q d)
   translation-impl-227 h =
@@ -68,6 +84,16 @@ module _ (l : Key) (r : List ℕ) (p q : Key) (d : List ℕ) where
   translation-impl-228 h =
       call-refuses _ _ 9 (pivotPairCauses l r p q d)
       (next-refused 9 _ _ _ refl (next-refused 9 _ _ _ refl (next-refused 9 _ _ _ refl (next-refused 9 _ _ _ refl (this-refused 9 _ _ _ refl (rw h))))))
+
+  -- && l == KeyToElement(left')
+  -- where it passes 64 bytes, the call is refused
+  pub translation-impl-230b : shortElement (lent .left) ≡ false → Refuses answers.Refused 8 (pivotPairAnswer l r p q d)
+  translation-impl-230b h = long-bounds (rw h)
+
+  -- && r == right'
+  -- where it passes 64 bytes, the call is refused
+  pub translation-impl-231b : shortElement (lent .right) ≡ false → Refuses answers.Refused 8 (pivotPairAnswer l r p q d)
+  translation-impl-231b h = long-bounds (refuted _ (λ b. true≢false (sym (both (shortElement (lent .left)) (shortElement (lent .right)) b .1) ∙ h)))
 
 -- lent a key and the record of an element
 module _ (l : Key) (r : Element) (p q : Key) (d : List ℕ) (a : length l ≤ maxLen) (e : shortElement r ≡ true) (c : length q ≤ maxLen)

@@ -82,6 +82,12 @@ module _ (p e c : List ℕ) (slot : ℕ) where
   unfolding pivotCauses
   translation-impl-539 h = refuses 1 (more-refused 1 pivots _ (this-refused 1 _ _ _ refl (or-left _ _ (or-right (notEdgeCount p e) _ (many c h)))))
 
+  -- ensures b == ParentKeysInChildRange(parentpivots, parentedges, childpivots, slot as int)
+  -- where a bound of the slot, translated, passes 64 bytes, the question is refused
+  pub translation-impl-540b : (shortElement (slotBounds (elements p) (edges e) slot .left) && shortElement (slotBounds (elements p) (edges e) slot .right)) ≡ false → Refuses decided.Refused 8 (parentChildAnswer p e c slot)
+  unfolding pivotCauses
+  translation-impl-540b h = call-refuses _ _ 8 (parentChildCauses p e c slot) (after-refused 8 (threeTablesCauses p e c) _ refl (next-refused 8 _ _ _ refl (this-refused 8 _ _ _ refl (rw h))))
+
 -- ---- lent the records of a parent's table with its edges, and of a child's
 
 module _ (parent : PivotTable) (et : EdgeTable) (child : PivotTable) (slot : ℕ)

@@ -84,6 +84,14 @@ module _ (v : List ℕ) (p q : Key) (n d : List ℕ) where
       (after-refused 9 (pivotCauses (notRecord n) (tooLong p || tooLong q || notElement n) v) _ refl
       (next-refused 9 _ _ _ refl (next-refused 9 _ _ _ refl (this-refused 9 _ _ _ refl (rw (i, h))))))
 
+  -- ensures pt' == TranslatePivots(pt, prefix, newPrefix, end, 0)
+  -- where one of these pivots passes 64 bytes, the call is refused
+  pub translation-impl-249b : all shortElement (TranslatePivots (elements v) p q (element n)) ≡ false → Refuses answers.Refused 8 (pivotsAnswer v p q n d)
+  unfolding pivotCauses
+  translation-impl-249b h =
+      call-refuses _ _ 8 (pivotsCauses v p q n d)
+      (after-refused 8 (pivotCauses (notRecord n) (tooLong p || tooLong q || notElement n) v) _ refl (next-refused 8 _ _ _ refl (this-refused 8 _ _ _ refl (rw h))))
+
 -- lent the records of pivots and of an end
 module _ (pt : PivotTable) (w : WFPivots pt ≡ true) (m : length pt ≤ maxPivots) (p q : Key) (a : length p ≤ maxLen) (b : length q ≤ maxLen)
     (f : (i : ℕ) → i < NumBuckets pt → IsPrefix p (GetKey pt i) ≡ true) (end : Element) (e : shortElement end ≡ true)

@@ -4,7 +4,7 @@ use mathlib.Core.Bool.{true, false}
 use mathlib.Core.List.{List}
 use mathlib.Core.Option.{Option, none, some}
 use Prim.Native.Nat.{ℕ, _≤_, _<_}
-use borrow.Author.Tests.{le-ltb}
+use borrow.Author.Tests.{le-ltb, lt-ltb}
 use lib.ListN.{length}
 use Rattle.model.specs.declared.Answer.the-variants as answers
 use Rattle.model.specs.keys.Key.{Key, maxLen, tooLong}
@@ -14,7 +14,7 @@ use Rattle.model.specs.translation.PrefixSet.{PrefixSet, Composable, ComposePre
 use Rattle.model.specs.translation.PairState.{PairState, pairOf, stateOf}
 use Rattle.model.specs.translation.Translation.{Translate, TranslateKey}
 use Rattle.model.specs.calls.Refusals.{outcome, first, over}
-use Rattle.model.specs.calls.TableCalls.{tableCauses}
+use Rattle.model.specs.calls.TableCalls.{pivotCauses, tableCauses}
 use Rattle.model.specs.calls.PairCalls.{thereNumber, composeCauses, composeAnswer, composePair}
 use Rattle.model.specs.calls.TranslationCalls.{translateCauses, translateAnswer, translatePair, translateKeyCauses, translateKeyAnswer, translateKeyLeaves}
 use Rattle.model.proofs.calls.TableCalls.{not-too-long}
@@ -22,7 +22,7 @@ use Rattle.model.proofs.translation.PairState.{state-pair, state-wrong}
 use Rattle.contracts.specs.Refuses.{Refuses}
 use Rattle.contracts.proofs.Refusing.{Refused, call-refuses, more-refused, table-count-refused, table-pivots-refused, edges-refused, edge-slot-refused}
 use Rattle.contracts.proofs.Lent.{accepted, go-on, pivots-read, edges-read, edge-slot-lent}
-use Rattle.contracts.proofs.translation_impl.Shared.{this-refused, next-refused}
+use Rattle.contracts.proofs.translation_impl.Shared.{this-refused, next-refused, after-refused}
 
 -- ---- the key's pair, and the key translated: lent any bytes
 
@@ -72,6 +72,14 @@ module _ (p e : List ℕ) (k : Key) where
     pub translation-impl-168 : WFEdges (edges e) (elements p) ≡ false → Refuses answers.Refused 4 (translateKeyAnswer p e k d)
     translation-impl-168 h = call-refuses _ _ 4 _ (more-refused 4 (translateCauses p e k) _ (badEdges h))
 
+    -- ensures k == TranslateKey(pt, et, key)
+    -- where it passes 64 bytes, the call is refused
+    pub translation-impl-170b : maxLen < length (TranslateKey (elements p) (edges e) k) → Refuses answers.Refused 8 (translateKeyAnswer p e k d)
+    unfolding tableCauses pivotCauses
+    translation-impl-170b h =
+        call-refuses _ _ 8 (translateKeyCauses p e k d)
+        (after-refused 8 (translateCauses p e k) _ refl (this-refused 8 _ _ _ refl (lt-ltb maxLen (length (TranslateKey (elements p) (edges e) k)) h)))
+
 -- ---- lent the records of a table and its edges
 
 module _ (pt : PivotTable) (et : EdgeTable) (w : WFPivots pt ≡ true) (m : length pt ≤ maxPivots) (x : WFEdges et pt ≡ true) (s : all shortEdge et ≡ true)
@@ -101,6 +109,11 @@ module _ (pt : PivotTable) (et : EdgeTable) (w : WFPivots pt ≡ true) (m : leng
 -- requires ComposePrefixSet.requires(a, b)
 pub translation-impl-182 : (a b : PairState) → Composable (pairOf a) (pairOf b) ≡ false → Refuses answers.Refused 7 (composeAnswer a b)
 translation-impl-182 a b h = call-refuses _ _ 7 (composeCauses a b) (next-refused 7 _ _ _ refl (this-refused 7 _ _ _ refl (rw h)))
+
+-- ensures c == ComposePrefixSet(a, b)
+-- where one of its prefixes passes 64 bytes, the call is refused
+pub translation-impl-183b : (a b : PairState) → longPair (ComposePrefixSet (pairOf a) (pairOf b)) ≡ true → Refuses answers.Refused 8 (composeAnswer a b)
+translation-impl-183b a b h = call-refuses _ _ 8 (composeCauses a b) (next-refused 8 _ _ _ refl (next-refused 8 _ _ _ refl (this-refused 8 _ _ _ refl h)))
 
 -- ensures c == ComposePrefixSet(a, b)
 pub translation-impl-183 : (a b : Option PrefixSet) → longPair a ≡ false → longPair b ≡ false → Composable a b ≡ true → longPair (ComposePrefixSet a b) ≡ false
