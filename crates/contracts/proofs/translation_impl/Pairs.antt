@@ -22,30 +22,22 @@ use Rattle.model.proofs.calls.KeyCalls.{only-sizes}
 use Rattle.model.proofs.calls.RenamingCalls.{pair-reads}
 use Rattle.model.proofs.keys.Key.{both, prefix-length}
 use Rattle.model.proofs.keys.Order.{refuted}
-use Rattle.model.proofs.records.Record.{element-encode}
 use Rattle.contracts.specs.Refuses.{Refuses}
 use Rattle.contracts.specs.BoundedPivots.{ElementIsKey}
-use Rattle.contracts.proofs.Refusing.{call-refuses}
-use Rattle.contracts.proofs.Lent.{accepted}
-use Rattle.contracts.proofs.translation_impl.Shared.{this-refused, next-refused, key-too-long, record-lent, element-lent, element-fails}
+use Rattle.contracts.proofs.Refusing.{call-refuses, not-key-long}
+use Rattle.contracts.proofs.Lent.{accepted, element-lent}
+use Rattle.contracts.proofs.translation_impl.Shared.{this-refused, next-refused, element-fails}
 
 -- ---- an element: a lone key, through change_prefix
 
 module _ (k p q : Key) (d : List ℕ) where
   -- requires ElementIsKey(e)
   pub translation-impl-217 : ElementIsKey (key k) ≡ false → Refuses answers.Refused 2 (changePrefixAnswer k p q d)
-  translation-impl-217 h = call-refuses _ _ 2 (changePrefixCauses k p q d) (this-refused 2 _ _ _ refl (or-left _ _ (or-left _ _ (key-too-long k h))))
+  translation-impl-217 h = call-refuses _ _ 2 (changePrefixCauses k p q d) (this-refused 2 _ _ _ refl (or-left _ _ (or-left _ _ (not-key-long k h))))
 
   -- requires IsPrefix(prefix, e.e)
   pub translation-impl-218 : IsPrefix p k ≡ false → Refuses answers.Refused 7 (changePrefixAnswer k p q d)
   translation-impl-218 h = call-refuses _ _ 7 (changePrefixCauses k p q d) (next-refused 7 _ _ _ refl (this-refused 7 _ _ _ refl (rw h)))
-
-  -- ensures e' == TranslateElement(e, prefix, newPrefix)
-  -- where it passes 64 bytes, the call is refused
-  pub translation-impl-219b : maxLen < length (changePrefix p q k) → Refuses answers.Refused 8 (changePrefixAnswer k p q d)
-  translation-impl-219b h =
-      call-refuses _ _ 8 (changePrefixCauses k p q d)
-      (next-refused 8 _ _ _ refl (next-refused 8 _ _ _ refl (this-refused 8 _ _ _ refl (lt-ltb maxLen (length (changePrefix p q k)) h))))
 
   -- ensures e' == TranslateElement(e, prefix, newPrefix)
   pub translation-impl-219 : length k ≤ maxLen → length q ≤ maxLen → IsPrefix p k ≡ true → length (changePrefix p q k) ≤ maxLen → length (changePrefix p q k) ≤ length d
@@ -56,23 +48,23 @@ module _ (k p q : Key) (d : List ℕ) where
       let n : first b ≡ none = only-sizes some none k p q d s c h ∙ (unfold outcome in rw (not-too-long (changePrefix p q k) t, le-ltb _ _ r)) in
       (unfold TranslateElement in refl, accepted _ _ b n, accepted _ _ b n)
 
+  -- ensures e' == TranslateElement(e, prefix, newPrefix)
+  -- where it passes 64 bytes, the call is refused
+  pub translation-impl-219b : maxLen < length (changePrefix p q k) → Refuses answers.Refused 8 (changePrefixAnswer k p q d)
+  translation-impl-219b h =
+      call-refuses _ _ 8 (changePrefixCauses k p q d)
+      (next-refused 8 _ _ _ refl (next-refused 8 _ _ _ refl (this-refused 8 _ _ _ refl (lt-ltb maxLen (length (changePrefix p q k)) h))))
+
 -- ---- a range
 
 -- lent any bytes
 module _ (l : Key) (r : List ℕ) (p q : Key) (d : List ℕ) where
   -- requires right.Element? ==> ElementIsKey(right)
+  -- the record is malformed, or stands for a longer key
   pub translation-impl-226 : (elementReading (reading r) && shortElement (element r)) ≡ false → Refuses answers.Refused 2 (pivotPairAnswer l r p q d)
   translation-impl-226 h =
       call-refuses _ _ 2 (pivotPairCauses l r p q d)
       (next-refused 2 _ _ _ refl (this-refused 2 _ _ _ refl (or-left _ _ (or-left _ _ (or-right (tooLong l) _ (element-fails r h))))))
-
-  abbrev lent : Bounds
-  lent = TranslatePivotPairInternal (key l) (element r) p q
-
-  long-bounds : (shortElement (lent .left) && shortElement (lent .right)) ≡ false → Refuses answers.Refused 8 (pivotPairAnswer l r p q d)
-  long-bounds h =
-      call-refuses _ _ 8 (pivotPairCauses l r p q d)
-      (next-refused 8 _ _ _ refl (next-refused 8 _ _ _ refl (next-refused 8 _ _ _ refl (this-refused 8 _ _ _ refl (rw h)))))
 
   -- requires IsPrefix(prefix, left)
   pub translation-impl-227 : IsPrefix p l ≡ false → Refuses answers.Refused 7 (pivotPairAnswer l r p q d)
@@ -84,6 +76,14 @@ module _ (l : Key) (r : List ℕ) (p q : Key) (d : List ℕ) where
   translation-impl-228 h =
       call-refuses _ _ 9 (pivotPairCauses l r p q d)
       (next-refused 9 _ _ _ refl (next-refused 9 _ _ _ refl (next-refused 9 _ _ _ refl (next-refused 9 _ _ _ refl (this-refused 9 _ _ _ refl (rw h))))))
+
+  abbrev lent : Bounds
+  lent = TranslatePivotPairInternal (key l) (element r) p q
+
+  long-bounds : (shortElement (lent .left) && shortElement (lent .right)) ≡ false → Refuses answers.Refused 8 (pivotPairAnswer l r p q d)
+  long-bounds h =
+      call-refuses _ _ 8 (pivotPairCauses l r p q d)
+      (next-refused 8 _ _ _ refl (next-refused 8 _ _ _ refl (next-refused 8 _ _ _ refl (this-refused 8 _ _ _ refl (rw h)))))
 
   -- && l == KeyToElement(left')
   -- where it passes 64 bytes, the call is refused
@@ -109,16 +109,17 @@ module _ (l : Key) (r : Element) (p q : Key) (d : List ℕ) (a : length l ≤ ma
   unfolding outcome
   pair-lent =
       let b : length p ≤ maxLen = omega (arith, prefix-length p l h) in
-      rw (record-lent r e, not-too-long l a, element-lent r e, not-too-long p b, not-too-long q c, h, element-encode r e, t, u, g, le-ltb _ _ room)
+      let o = element-lent r e in
+      rw (o .one, not-too-long l a, o .right, not-too-long p b, not-too-long q c, h, o .stands, t, u, g, le-ltb _ _ room)
 
   pair-written : (pivotPairAnswer l (encode r) p q d ≡ answers.Value 2) × (dest ≡ over (encodeAll (new .left ∷ new .right ∷ [])) d)
   pair-written =
       let b = pivotPairCauses l (encode r) p q d in
-      (accepted _ _ b pair-lent, accepted _ _ b pair-lent ∙ rw (element-encode r e))
+      (accepted _ _ b pair-lent, accepted _ _ b pair-lent ∙ rw (element-lent r e .stands))
 
   -- the two records stand for the new bounds
   pair-read : elements (take (2 * recordSize) dest) ≡ new .left ∷ new .right ∷ []
-  pair-read = pair-reads l (encode r) p q d 2 (pair-written .0) ∙ rw (element-encode r e)
+  pair-read = pair-reads l (encode r) p q d 2 (pair-written .0) ∙ rw (element-lent r e .stands)
 
   -- && l == KeyToElement(left')
   pub translation-impl-230 : (pivotPairAnswer l (encode r) p q d ≡ answers.Value 2) × (dest ≡ over (encodeAll (new .left ∷ new .right ∷ [])) d)

@@ -19,12 +19,11 @@ use Rattle.model.proofs.calls.Refusals.{or-left, or-right}
 use Rattle.model.proofs.calls.TableCalls.{not-too-long}
 use Rattle.model.proofs.keys.Key.{prefix-is-take}
 use Rattle.model.proofs.ranges.RangePrefix.{prefix-of-left}
-use Rattle.model.proofs.records.Record.{element-encode}
 use Rattle.contracts.specs.Refuses.{Refuses}
 use Rattle.contracts.specs.BoundedPivots.{ElementIsKey}
-use Rattle.contracts.proofs.Refusing.{call-refuses}
-use Rattle.contracts.proofs.Lent.{accepted}
-use Rattle.contracts.proofs.translation_impl.Shared.{this-refused, next-refused, key-too-long, record-lent, element-lent, element-fails}
+use Rattle.contracts.proofs.Refusing.{call-refuses, not-key-long}
+use Rattle.contracts.proofs.Lent.{accepted, element-lent}
+use Rattle.contracts.proofs.translation_impl.Shared.{this-refused, next-refused, element-fails}
 
 -- ---- the prefix of a range, from a key up to an element
 
@@ -32,9 +31,10 @@ use Rattle.contracts.proofs.translation_impl.Shared.{this-refused, next
 module _ (l : Key) (r : List ℕ) where
   -- requires ElementIsKey(left)
   pub translation-impl-127 : ElementIsKey (key l) ≡ false → Refuses answers.Refused 2 (pivotLcpAnswer l r)
-  translation-impl-127 h = call-refuses _ _ 2 (pivotLcpCauses l r) (next-refused 2 _ _ _ refl (this-refused 2 _ _ _ refl (or-left _ _ (key-too-long l h))))
+  translation-impl-127 h = call-refuses _ _ 2 (pivotLcpCauses l r) (next-refused 2 _ _ _ refl (this-refused 2 _ _ _ refl (or-left _ _ (not-key-long l h))))
 
   -- requires right.Element? ==> ElementIsKey(right)
+  -- the record is malformed, or stands for a longer key
   pub translation-impl-128 : (elementReading (reading r) && shortElement (element r)) ≡ false → Refuses answers.Refused 2 (pivotLcpAnswer l r)
   translation-impl-128 h = call-refuses _ _ 2 (pivotLcpCauses l r) (next-refused 2 _ _ _ refl (this-refused 2 _ _ _ refl (or-right (tooLong l) _ (element-fails r h))))
 
@@ -42,10 +42,10 @@ module _ (l : Key) (r : List ℕ) where
 module _ (l : Key) (r : Element) (s : length l ≤ maxLen) (h : shortElement r ≡ true) where
   lcp-lent : first (pivotLcpCauses l (encode r)) ≡ none
   unfolding outcome
-  lcp-lent = rw (record-lent r h, not-too-long l s, element-lent r h)
+  lcp-lent = let e = element-lent r h in rw (e .one, not-too-long l s, e .right)
 
   lcp-answer : pivotLcpAnswer l (encode r) ≡ answers.Value (length (PivotLcp (key l) r))
-  lcp-answer = accepted _ _ (pivotLcpCauses l (encode r)) lcp-lent ∙ rw (element-encode r h)
+  lcp-answer = accepted _ _ (pivotLcpCauses l (encode r)) lcp-lent ∙ rw (element-lent r h .stands)
 
   -- the prefix is that many bytes of left
   lcp-part : (pivotLcpAnswer l (encode r) ≡ answers.Value (length (PivotLcp (key l) r))) × (take (length (PivotLcp (key l) r)) l ≡ PivotLcp (key l) r)

@@ -23,16 +23,15 @@ use Rattle.model.proofs.Lists.{le-or-lt}
 use Rattle.model.proofs.calls.Refusals.{or-left, or-right, not-fails}
 use Rattle.model.proofs.calls.TableCalls.{not-too-long, length-elements, length-edges}
 use Rattle.model.proofs.keys.Order.{refuted}
-use Rattle.model.proofs.records.Record.{element-encode}
 use Rattle.model.proofs.tables.Routing.{wf-count}
 use Rattle.model.proofs.translation.Renaming.{pivots-count, edges-count}
 use Rattle.model.proofs.cuts.CutEdges.{edges-say}
 use Rattle.contracts.specs.Refuses.{Refuses}
 use Rattle.contracts.specs.Translation.{TranslatePivotsFrom, TranslateEdgesFrom}
 use Rattle.contracts.proofs.Places.{all-places, places-all}
-use Rattle.contracts.proofs.Refusing.{Refused, call-refuses, more-refused, count-refused, pivots-refused, table-count-refused, table-pivots-refused, edges-refused}
-use Rattle.contracts.proofs.Lent.{accepted, go-on, pivots-read, pivots-lent, edges-read, table-lent}
-use Rattle.contracts.proofs.translation_impl.Shared.{this-refused, next-refused, after-refused, record-lent, element-lent, element-fails}
+use Rattle.contracts.proofs.Refusing.{Refused, call-refuses, more-refused, count-refused, wrong-refused, pivots-refused, table-count-refused, table-pivots-refused, edges-refused}
+use Rattle.contracts.proofs.Lent.{accepted, go-on, element-lent, pivots-read, pivots-lent, edges-read, table-lent}
+use Rattle.contracts.proofs.translation_impl.Shared.{this-refused, next-refused, after-refused, element-fails}
 
 -- ---- pivots
 
@@ -50,7 +49,6 @@ module _ (pt : PivotTable) (p : Key) where
   begun-all f = places-all (begun p) max (butLast pt) (λ i l. let m : i < NumBuckets pt = omega (arith, before) in rw (getD-take (NumBuckets pt) pt i max m) (f i m))
 
 -- lent any bytes
-
 module _ (v : List ℕ) (p q : Key) (n d : List ℕ) where
   refuses : (i : ℕ) → Refused i (pivotCauses (notRecord n) (tooLong p || tooLong q || notElement n) v) → Refuses answers.Refused i (pivotsAnswer v p q n d)
   refuses i h = call-refuses _ _ i (pivotsCauses v p q n d) (more-refused i (pivotCauses (notRecord n) (tooLong p || tooLong q || notElement n) v) _ h)
@@ -71,9 +69,9 @@ module _ (v : List ℕ) (p q : Key) (n d : List ℕ) where
       call-refuses _ _ 7 (pivotsCauses v p q n d) (after-refused 7 (pivotCauses (notRecord n) (tooLong p || tooLong q || notElement n) v) _ refl (this-refused 7 _ _ _ refl (rw f)))
 
   -- requires end.Element? ==> ElementIsKey(end)
+  -- the record is malformed, or stands for a longer key
   pub translation-impl-247 : (elementReading (reading n) && shortElement (element n)) ≡ false → Refuses answers.Refused 2 (pivotsAnswer v p q n d)
-  unfolding pivotCauses
-  translation-impl-247 h = refuses 2 (next-refused 2 _ _ _ refl (this-refused 2 _ _ _ refl (or-left _ _ (or-right (tooLong p || tooLong q) _ (element-fails n h)))))
+  translation-impl-247 h = refuses 2 (wrong-refused _ _ v (or-right (tooLong p || tooLong q) _ (element-fails n h)))
 
   -- requires Keyspace.lt(TranslateElement(pt[|pt|-2], prefix, newPrefix), end)
   pub translation-impl-248 : lt (TranslateElement p q (pivotAt (elements v) (length (elements v) - 2))) (element n) ≡ false → Refuses answers.Refused 9 (pivotsAnswer v p q n d)
@@ -102,16 +100,18 @@ module _ (pt : PivotTable) (w : WFPivots pt ≡ true) (m : length pt ≤ maxPivo
   renamed-lent =
       let c = pivots-count pt p q end (omega (arith, wf-count pt w)) in
       let i : NumBuckets pt - 1 ≡ length pt - 2 = omega arith in
+      let o = element-lent end e in
       go-on some none (pivotCauses (notRecord (encode end)) (tooLong p || tooLong q || notElement (encode end)) (encodeAll pt)) _
-      (pivots-lent pt w _ _ m (record-lent end e) (rw (not-too-long p a, not-too-long q b, element-lent end e)))
-      ∙ rw (pivots-read pt w, element-encode end e, begun-all pt p f, t, i, g, c, le-ltb _ _ room)
+      (pivots-lent pt w _ _ m (o .one) (rw (not-too-long p a, not-too-long q b, o .right)))
+      ∙ rw (pivots-read pt w, o .stands, begun-all pt p f, t, i, g, c, le-ltb _ _ room)
 
   -- ensures pt' == TranslatePivots(pt, prefix, newPrefix, end, 0)
   pub translation-impl-249 : (pivotsAnswer (encodeAll pt) p q (encode end) d ≡ answers.Value (length (TranslatePivotsFrom pt p q end 0)))
       × (pivotsLeaves (encodeAll pt) p q (encode end) d ≡ over (encodeAll (TranslatePivotsFrom pt p q end 0)) d)
   translation-impl-249 =
       let c = pivotsCauses (encodeAll pt) p q (encode end) d in
-      (accepted _ _ c renamed-lent ∙ rw (pivots-read pt w, element-encode end e), accepted _ _ c renamed-lent ∙ rw (pivots-read pt w, element-encode end e))
+      let o = element-lent end e in
+      (accepted _ _ c renamed-lent ∙ rw (pivots-read pt w, o .stands), accepted _ _ c renamed-lent ∙ rw (pivots-read pt w, o .stands))
 
 -- ---- edges
 
@@ -141,14 +141,17 @@ module _ (p e d : List ℕ) where
   translation-impl-266 h = call-refuses _ _ 4 (edgesCauses p e d) (more-refused 4 (tableCauses false false p e) _ (edges-refused false false p e h))
 
 -- lent the records of a table and its edges
--- ensures et' == TranslateEdges(et, pt, 0)
-pub translation-impl-267 : (pt : PivotTable) (et : EdgeTable) → WFPivots pt ≡ true → length pt ≤ maxPivots → WFEdges et pt ≡ true → all shortEdge et ≡ true
-    → (d : List ℕ) → length et * recordSize ≤ length d
-    → (edgesAnswer (encodeAll pt) (encodeEdges et) d ≡ answers.Value (length (TranslateEdgesFrom et pt 0)))
-    × (edgesLeaves (encodeAll pt) (encodeEdges et) d ≡ over (encodeEdges (TranslateEdgesFrom et pt 0)) d)
-translation-impl-267 pt et w m x s d room =
-    let c = edgesCauses (encodeAll pt) (encodeEdges et) d in
-    let n : first c ≡ none =
-    go-on some none (tableCauses false false (encodeAll pt) (encodeEdges et)) _ (table-lent pt et w m x s false refl)
-    ∙ (unfold outcome in rw (pivots-read pt w, edges-read pt et w m x s, edges-count et pt (edges-say et pt x .count), le-ltb _ _ room)) in
-    (accepted _ _ c n ∙ rw (pivots-read pt w, edges-read pt et w m x s), accepted _ _ c n ∙ rw (pivots-read pt w, edges-read pt et w m x s))
+module _ (pt : PivotTable) (et : EdgeTable) (w : WFPivots pt ≡ true) (m : length pt ≤ maxPivots) (x : WFEdges et pt ≡ true) (s : all shortEdge et ≡ true)
+    (d : List ℕ) (room : length et * recordSize ≤ length d) where
+  filled-lent : first (edgesCauses (encodeAll pt) (encodeEdges et) d) ≡ none
+  unfolding outcome
+  filled-lent =
+      go-on some none (tableCauses false false (encodeAll pt) (encodeEdges et)) _ (table-lent pt et w m x s false refl)
+      ∙ rw (pivots-read pt w, edges-read pt et w m x s, edges-count et pt (edges-say et pt x .count), le-ltb _ _ room)
+
+  -- ensures et' == TranslateEdges(et, pt, 0)
+  pub translation-impl-267 : (edgesAnswer (encodeAll pt) (encodeEdges et) d ≡ answers.Value (length (TranslateEdgesFrom et pt 0)))
+      × (edgesLeaves (encodeAll pt) (encodeEdges et) d ≡ over (encodeEdges (TranslateEdgesFrom et pt 0)) d)
+  translation-impl-267 =
+      let c = edgesCauses (encodeAll pt) (encodeEdges et) d in
+      (accepted _ _ c filled-lent ∙ rw (pivots-read pt w, edges-read pt et w m x s), accepted _ _ c filled-lent ∙ rw (pivots-read pt w, edges-read pt et w m x s))

@@ -1,21 +1,17 @@
--- What several theorems about TranslationImpl need: a cause among others, and an element lent as its record.
+-- What several theorems about TranslationImpl need: a cause among others, and a record that is no element.
 use mathlib.Core.Path.{_≡_, refl, sym}
 use mathlib.Core.Bool.{Bool, true, false, not, _&&_}
 use mathlib.Core.List.{List, [], _∷_, _++_}
 use Prim.Native.Nat.{ℕ}
-use borrow.Author.Tests.{leb-true, leb-false, lt-ltb}
+use borrow.Author.Tests.{leb-true}
 use lib.Dec.{leb}
-use lib.ListN.{length}
 use Rattle.model.specs.declared.Refusal.{Refusal}
-use Rattle.model.specs.keys.Key.{Key, maxLen, tooLong}
-use Rattle.model.specs.keys.Order.{Element, key, max}
-use Rattle.model.specs.records.Record.{reading, element, elementReading, encode}
+use Rattle.model.specs.records.Record.{reading, element, elementReading}
 use Rattle.model.specs.tables.Tables.{shortElement}
 use Rattle.model.specs.calls.Refusals.{Cause, _⇒_, number, outcome}
-use Rattle.model.specs.calls.KeyCalls.{notRecord, notElement}
+use Rattle.model.specs.calls.KeyCalls.{notElement}
 use Rattle.model.proofs.keys.Key.{both}
-use Rattle.model.proofs.records.Record.{reading-key, reading-max, length-encode, short-element}
-use Rattle.contracts.specs.BoundedPivots.{ElementIsKey}
+use Rattle.model.proofs.records.Record.{short-element}
 use Rattle.contracts.proofs.Refusing.{numbersUpTo, Refused}
 
 -- ---- a cause that applies, among causes whose numbers are at most n
@@ -39,25 +35,7 @@ after-refused n [] ds w f = f
 after-refused n ((b ⇒ r) ∷ cs) ds w f =
     let a = both (leb (number r) n) (numbersUpTo n cs) w in next-refused n b r (cs ++ ds) (a .0) (after-refused n cs ds (a .1) f)
 
--- ---- keys and elements
-
--- `ElementIsKey(e)` fails of a key that is too long
-pub key-too-long : (k : Key) → ElementIsKey (key k) ≡ false → tooLong k ≡ true
-key-too-long k h = lt-ltb maxLen (length k) (leb-false (length k) maxLen h)
-
--- an element as its record
-module _ (e : Element) (h : shortElement e ≡ true) where
-  pub record-lent : notRecord (encode e) ≡ false
-  record-lent = rw (length-encode e h)
-
-  pub element-lent : notElement (encode e) ≡ false
-  element-lent = go e h
-    where
-      go : (e : Element) → shortElement e ≡ true → notElement (encode e) ≡ false
-      go (key k) s = rw (reading-key k (leb-true (length k) maxLen s))
-      go max s = rw reading-max
-
--- `e.Element? ==> ElementIsKey(e)`: a record that is malformed, or stands for a longer key, is no element
+-- `e.Element? ==> ElementIsKey(e)`: a record that is malformed, or stands for a longer key, isn't read as an element
 pub element-fails : (r : List ℕ) → (elementReading (reading r) && shortElement (element r)) ≡ false → notElement r ≡ true
 element-fails r h = go (elementReading (reading r)) refl
   where

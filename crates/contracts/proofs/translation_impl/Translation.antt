@@ -111,14 +111,14 @@ pub translation-impl-182 : (a b : PairState) → Composable (pairOf a) (pairOf b
 translation-impl-182 a b h = call-refuses _ _ 7 (composeCauses a b) (next-refused 7 _ _ _ refl (this-refused 7 _ _ _ refl (rw h)))
 
 -- ensures c == ComposePrefixSet(a, b)
--- where one of its prefixes passes 64 bytes, the call is refused
-pub translation-impl-183b : (a b : PairState) → longPair (ComposePrefixSet (pairOf a) (pairOf b)) ≡ true → Refuses answers.Refused 8 (composeAnswer a b)
-translation-impl-183b a b h = call-refuses _ _ 8 (composeCauses a b) (next-refused 8 _ _ _ refl (next-refused 8 _ _ _ refl (this-refused 8 _ _ _ refl h)))
-
--- ensures c == ComposePrefixSet(a, b)
 pub translation-impl-183 : (a b : Option PrefixSet) → longPair a ≡ false → longPair b ≡ false → Composable a b ≡ true → longPair (ComposePrefixSet a b) ≡ false
     → (composeAnswer (stateOf a) (stateOf b) ≡ answers.Value (thereNumber (ComposePrefixSet a b))) × (composePair (stateOf a) (stateOf b) ≡ stateOf (ComposePrefixSet a b))
 translation-impl-183 a b f g h s =
     let n : first (composeCauses (stateOf a) (stateOf b)) ≡ none = unfold outcome in rw (state-wrong a, state-wrong b, state-pair a, state-pair b, f, g, h, s) in
     let c = composeCauses (stateOf a) (stateOf b) in
     (accepted _ _ c n ∙ rw (state-pair a, state-pair b), accepted _ _ c n ∙ rw (state-pair a, state-pair b))
+
+-- ensures c == ComposePrefixSet(a, b)
+-- where one of its prefixes passes 64 bytes, the call is refused
+pub translation-impl-183b : (a b : PairState) → longPair (ComposePrefixSet (pairOf a) (pairOf b)) ≡ true → Refuses answers.Refused 8 (composeAnswer a b)
+translation-impl-183b a b h = call-refuses _ _ 8 (composeCauses a b) (next-refused 8 _ _ _ refl (next-refused 8 _ _ _ refl (this-refused 8 _ _ _ refl h)))
