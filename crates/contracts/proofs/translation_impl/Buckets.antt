@@ -40,7 +40,11 @@ module _ (b : Bucket) (p q : Key) where
       → TranslateBucketSimple b p q i
       ≡ cond (IsPrefix p (getD b (i - 1) d .key)) (TranslateBucketSimple b p q (i - 1) ++ (translateEntry p q (getD b (i - 1) d) ∷ [])) (TranslateBucketSimple b p q (i - 1)))
   unfolding TranslateBucket
-  translation-impl-285 = (refl, λ i d h l. let e : i - 1 + 1 ≡ i = omega arith in (rw e at (simple-next b p q (i - 1) d (omega arith))) ∙ add-where (IsPrefix p (getD b (i - 1) d .key)) (TranslateBucket (take (i - 1) b) p q) (translateEntry p q (getD b (i - 1) d)))
+  translation-impl-285 = (refl, λ i d h l. next i d (i - 1) (omega arith) l)
+    where
+      next : (i : ℕ) (d : Entry) (j : ℕ) → j + 1 ≡ i → i ≤ length b
+          → TranslateBucket (take i b) p q ≡ cond (IsPrefix p (getD b j d .key)) (TranslateBucket (take j b) p q ++ (translateEntry p q (getD b j d) ∷ [])) (TranslateBucket (take j b) p q)
+      next i d j e l = (rw e at (simple-next b p q j d (omega arith))) ∙ add-where (IsPrefix p (getD b j d .key)) (TranslateBucket (take j b) p q) (translateEntry p q (getD b j d))
 
   -- ensures |result.keys| <= i
   pub translation-impl-288 : (i : ℕ) → i ≤ length b → length (TranslateBucketSimple b p q i) ≤ i
@@ -50,7 +54,8 @@ module _ (b : Bucket) (p q : Key) where
 module _ (l : List ℕ) (p q : Key) (d : List ℕ) where
   -- ensures b == TranslateBucketWillFit(mbucket.I(), prefix, newPrefix)
   -- it says no exactly where the renaming, into so long a destination, is refused with 8 or 10
-  pub translation-impl-330 : (willFitAnswer l p q (length d) ≡ decided.No → (translateBucketAnswer l p q d ≡ answers.Refused TooLong) ⊎ (translateBucketAnswer l p q d ≡ answers.Refused NoRoom))
+  pub translation-impl-330 : (willFitAnswer l p q (length d) ≡ decided.No
+      → (translateBucketAnswer l p q d ≡ answers.Refused TooLong) ⊎ (translateBucketAnswer l p q d ≡ answers.Refused NoRoom))
       × ((translateBucketAnswer l p q d ≡ answers.Refused TooLong) ⊎ (translateBucketAnswer l p q d ≡ answers.Refused NoRoom) → willFitAnswer l p q (length d) ≡ decided.No)
   translation-impl-330 = (no-refused l p q d, ⊎-elim (eight-no l p q d) (ten-no l p q d))
 

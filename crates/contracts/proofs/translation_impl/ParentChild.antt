@@ -48,7 +48,11 @@ module _ (p e c : List ℕ) (slot : ℕ) where
   pub translation-impl-534 : WFPivots (elements p) ≡ false → Refuses decided.Refused 3 (parentChildAnswer p e c slot)
   translation-impl-534 h = refuses 3 (more-refused 3 pivots _ (pivots-refused _ _ p h))
 
-  child-wf : first (pivots ++ (not (IsStrictlySorted (elements c)) ⇒ Unsorted) ∷ []) ≡ none → WFPivots (elements c) ≡ true
+  -- and with 3 of the child's
+  abbrev sorted : List Cause
+  sorted = pivots ++ (not (IsStrictlySorted (elements c)) ⇒ Unsorted) ∷ []
+
+  child-wf : first sorted ≡ none → WFPivots (elements c) ≡ true
   child-wf h =
       let a = none-before pivots _ h in
       let s = either-fails (notEdgeCount p e) (notPivotCount c) (causes-shape _ _ p a) .1 in
@@ -60,7 +64,7 @@ module _ (p e c : List ℕ) (slot : ℕ) where
   pub translation-impl-535 : WFPivots (elements c) ≡ false → Refuses decided.Refused 3 (parentChildAnswer p e c slot)
   unfolding pivotCauses
   translation-impl-535 h =
-      refuses 3 (more-refused 3 (pivots ++ (not (IsStrictlySorted (elements c)) ⇒ Unsorted) ∷ []) _ (clause-refused 3 (pivots ++ (not (IsStrictlySorted (elements c)) ⇒ Unsorted) ∷ []) (WFPivots (elements c)) refl child-wf h))
+      refuses 3 (more-refused 3 sorted _ (clause-refused 3 sorted (WFPivots (elements c)) refl child-wf h))
 
   -- requires WFEdges(parentedges, parentpivots)
   pub translation-impl-536 : WFEdges (edges e) (elements p) ≡ false → Refuses decided.Refused 4 (parentChildAnswer p e c slot)
@@ -84,7 +88,8 @@ module _ (p e c : List ℕ) (slot : ℕ) where
 
   -- ensures b == ParentKeysInChildRange(parentpivots, parentedges, childpivots, slot as int)
   -- where a bound of the slot, translated, passes 64 bytes, the question is refused
-  pub translation-impl-540b : (shortElement (slotBounds (elements p) (edges e) slot .left) && shortElement (slotBounds (elements p) (edges e) slot .right)) ≡ false → Refuses decided.Refused 8 (parentChildAnswer p e c slot)
+  pub translation-impl-540b : (shortElement (slotBounds (elements p) (edges e) slot .left) && shortElement (slotBounds (elements p) (edges e) slot .right)) ≡ false
+      → Refuses decided.Refused 8 (parentChildAnswer p e c slot)
   unfolding pivotCauses
   translation-impl-540b h = call-refuses _ _ 8 (parentChildCauses p e c slot) (after-refused 8 (threeTablesCauses p e c) _ refl (next-refused 8 _ _ _ refl (this-refused 8 _ _ _ refl (rw h))))
 
