@@ -4,11 +4,11 @@ use mathlib.Core.Bool.{Bool, true, false, not}
 use mathlib.Core.List.{List, _++_}
 use mathlib.Core.Option.{none, some}
 use Prim.Native.Nat.{ℕ, _≤_}
-use borrow.Author.Tests.{eq-eqb, leb-true}
+use borrow.Author.Tests.{le-ltb, eq-eqb, leb-true}
 use lib.ListN.{length}
 use Rattle.model.specs.declared.Refusal.{Refusal}
 use Rattle.model.specs.calls.Refusals.{Cause, outcome, first}
-use Rattle.model.specs.calls.KeyCalls.{notRecord, notElement}
+use Rattle.model.specs.calls.KeyCalls.{notRecord, notElement, sizeCauses}
 use Rattle.model.specs.calls.TableCalls.{pivotCauses, tableCauses, keyCauses, slotCauses, edgeSlotCauses}
 use Rattle.model.specs.keys.Key.{Key, maxLen, tooLong}
 use Rattle.model.specs.keys.Order.{Element, key, max}
@@ -29,6 +29,11 @@ accepted f v cs h = sym (passed f v v cs h refl)
 -- where none of the first causes applies, the others decide
 pub go-on : {A : Type 0} (f : Refusal → A) (v : A) (cs ds : List Cause) → first cs ≡ none → outcome f (cs ++ ds) v ≡ outcome f ds v
 go-on f v cs ds h = sym (after f v (outcome f ds v) cs ds h refl)
+
+-- room for a produced key of at most 64 bytes
+pub size-lent : (x : Key) (d : List ℕ) → length x ≤ maxLen → length x ≤ length d → first (sizeCauses x d) ≡ none
+unfolding outcome
+size-lent x d s r = rw (not-too-long x s, le-ltb (length d) (length x) r)
 
 -- an element as its record
 pub record ElementLent (r : List ℕ) (e : Element) : Type 0 where

@@ -1,6 +1,7 @@
 pub mod Refusing
 pub mod Lent
 pub mod CutsLent
+pub mod LongRefused
 pub mod Places
 pub mod bounded_pivots
 pub mod translation_lib

@@ -5,9 +5,8 @@ use mathlib.Core.List.{List, [], _∷_, map}
 use mathlib.Core.Option.{none}
 use Prim.Native.Nat.{ℕ, _-_, _≤_, _<_}
 use native.Mathlib.Omega.{arith}
-use borrow.Author.Tests.{lt-ltb, not-false}
+use borrow.Author.Tests.{lt-ltb}
 use lib.ListN.{length, getD, length-map}
-use Rattle.model.specs.declared.Refusal.the-variants.{NotBelow}
 use Rattle.model.specs.declared.Decided.the-variants as decided
 use Rattle.model.specs.keys.Key.{Key, maxLen, tooLong}
 use Rattle.model.specs.keys.Order.{Element, key, max, lte, lt}
@@ -21,12 +20,12 @@ use Rattle.model.proofs.Lists.{getD-map}
 use Rattle.model.proofs.keys.Key.{both}
 use Rattle.model.proofs.keys.Order.{lte-trans, lte-trans-lt}
 use Rattle.model.proofs.tables.Places.{sorted-lte}
-use Rattle.model.proofs.calls.Refusals.{none-here, none-after}
+use Rattle.model.proofs.calls.Refusals.{not-fails}
 use Rattle.model.proofs.calls.TableCalls.{not-too-long}
 use Rattle.contracts.specs.Refuses.{Refuses}
 use Rattle.contracts.specs.BoundedPivots.{ElementIsKey, KeysToElements, BoundedKeySeq, BoundedSortedKeySeq}
 use Rattle.contracts.proofs.Places.{all-places, places-all, same-tests}
-use Rattle.contracts.proofs.Refusing.{clause-refused, more-refused, call-refuses, not-key-long, wrong-refused, count-refused, pivots-refused}
+use Rattle.contracts.proofs.Refusing.{this-refused, after-refused, more-refused, call-refuses, not-key-long, wrong-refused, count-refused, pivots-refused}
 use Rattle.contracts.proofs.Lent.{accepted, go-on, element-lent, pivots-read, pivots-lent}
 
 -- ---- ContainsRange, of the pivots p, the left key l and the right record r
@@ -49,8 +48,8 @@ module _ (p : List ℕ) (l : Key) (r : List ℕ) where
   pub bounded-pivots-92 : lt (key l) (element r) ≡ false → Refuses decided.Refused 9 (containsRangeAnswer p l r)
   unfolding pivotCauses
   bounded-pivots-92 h =
-      call-refuses _ _ 9 _ (clause-refused 9 (containsRangeCauses p l r) (lt (key l) (element r)) refl
-      (λ e. not-false _ (none-here _ NotBelow [] (none-after (pivotCauses (notRecord r) (tooLong l || notElement r) p) _ e))) h)
+      call-refuses _ _ 9 (containsRangeCauses p l r)
+      (after-refused 9 (pivotCauses (notRecord r) (tooLong l || notElement r) p) _ refl (this-refused 9 _ _ [] refl (not-fails _ h)))
 
 -- ensures b == ContainsRange(pt, left, right)
 pub bounded-pivots-93 : (pt : PivotTable) (l : Key) (r : Element) → WFPivots pt ≡ true → length pt ≤ maxPivots → length l ≤ maxLen → shortElement r ≡ true

@@ -24,9 +24,8 @@ use Rattle.model.proofs.buckets.Entries.{sizedEntry, entries-encodeBucket}
 use Rattle.model.proofs.buckets.Renamed.{simple-most, simple-next}
 use Rattle.contracts.specs.Refuses.{Refuses}
 use Rattle.contracts.specs.Translation.{TranslateBucketSimple}
-use Rattle.contracts.proofs.Refusing.{call-refuses}
+use Rattle.contracts.proofs.Refusing.{this-refused, next-refused, after-refused, call-refuses}
 use Rattle.contracts.proofs.Lent.{accepted, go-on}
-use Rattle.contracts.proofs.translation_impl.Shared.{this-refused, next-refused, after-refused}
 
 -- an entry added at the end where a test holds
 add-where : (t : Bool) (a : Bucket) (x : Entry) → a ++ cond t (x ∷ []) [] ≡ cond t (a ++ (x ∷ [])) a

@@ -14,10 +14,9 @@ use Rattle.model.specs.calls.Refusals.{over}
 use Rattle.model.specs.calls.TableCalls.{pivotCauses, tableCauses, edgeSlotCauses}
 use Rattle.model.specs.calls.CutCalls.{cutCauses, cutAnswer, cutLeavesEdges}
 use Rattle.contracts.specs.Refuses.{Refuses}
-use Rattle.contracts.proofs.Refusing.{call-refuses, more-refused, edges-refused}
+use Rattle.contracts.proofs.Refusing.{this-refused, after-refused, call-refuses, more-refused, edges-refused}
 use Rattle.contracts.proofs.Lent.{accepted, pivots-read, edges-read}
 use Rattle.contracts.proofs.CutsLent.{cut-lent}
-use Rattle.contracts.proofs.translation_impl.Shared.{this-refused, after-refused}
 
 -- lent any bytes
 module _ (p e : List ℕ) (k : Key) (dp de : List ℕ) where

@@ -1,6 +1,6 @@
 -- TranslationImpl, lines 216 to 241: an element and a range under another prefix.
-use mathlib.Core.Path.{_≡_, refl, sym, _∙_}
-use mathlib.Core.Bool.{true, false, _&&_, true≢false}
+use mathlib.Core.Path.{_≡_, refl, _∙_}
+use mathlib.Core.Bool.{true, false, _&&_}
 use mathlib.Core.List.{List, [], _∷_}
 use mathlib.Core.Option.{none, some}
 use Prim.Native.Nat.{ℕ, _*_, _≤_, _<_}
@@ -20,13 +20,13 @@ use Rattle.model.proofs.calls.Refusals.{or-left, or-right}
 use Rattle.model.proofs.calls.TableCalls.{not-too-long}
 use Rattle.model.proofs.calls.KeyCalls.{only-sizes}
 use Rattle.model.proofs.calls.RenamingCalls.{pair-reads}
-use Rattle.model.proofs.keys.Key.{both, prefix-length}
-use Rattle.model.proofs.keys.Order.{refuted}
+use Rattle.model.proofs.keys.Key.{prefix-length}
 use Rattle.contracts.specs.Refuses.{Refuses}
 use Rattle.contracts.specs.BoundedPivots.{ElementIsKey}
-use Rattle.contracts.proofs.Refusing.{call-refuses, not-key-long}
-use Rattle.contracts.proofs.Lent.{accepted, element-lent}
-use Rattle.contracts.proofs.translation_impl.Shared.{this-refused, next-refused, element-fails}
+use Rattle.contracts.proofs.Refusing.{this-refused, next-refused, call-refuses, not-key-long}
+use Rattle.contracts.proofs.LongRefused.{left-refused, right-refused}
+use Rattle.contracts.proofs.Lent.{size-lent, accepted, element-lent}
+use Rattle.contracts.proofs.translation_impl.Shared.{element-fails}
 
 -- ---- an element: a lone key, through change_prefix
 
@@ -45,7 +45,7 @@ module _ (k p q : Key) (d : List ℕ) where
       × (changePrefixAnswer k p q d ≡ answers.Value (length (changePrefix p q k))) × (changePrefixLeaves k p q d ≡ over (changePrefix p q k) d)
   translation-impl-219 s c h t r =
       let b = changePrefixCauses k p q d in
-      let n : first b ≡ none = only-sizes some none k p q d s c h ∙ (unfold outcome in rw (not-too-long (changePrefix p q k) t, le-ltb _ _ r)) in
+      let n : first b ≡ none = only-sizes some none k p q d s c h ∙ size-lent (changePrefix p q k) d t r in
       (unfold TranslateElement in refl, accepted _ _ b n, accepted _ _ b n)
 
   -- ensures e' == TranslateElement(e, prefix, newPrefix)
@@ -80,20 +80,15 @@ module _ (l : Key) (r : List ℕ) (p q : Key) (d : List ℕ) where
   abbrev lent : Bounds
   lent = TranslatePivotPairInternal (key l) (element r) p q
 
-  long-bounds : (shortElement (lent .left) && shortElement (lent .right)) ≡ false → Refuses answers.Refused 8 (pivotPairAnswer l r p q d)
-  long-bounds h =
-      call-refuses _ _ 8 (pivotPairCauses l r p q d)
-      (next-refused 8 _ _ _ refl (next-refused 8 _ _ _ refl (next-refused 8 _ _ _ refl (this-refused 8 _ _ _ refl (rw h)))))
-
   -- && l == KeyToElement(left')
   -- where it passes 64 bytes, the call is refused
   pub translation-impl-230b : shortElement (lent .left) ≡ false → Refuses answers.Refused 8 (pivotPairAnswer l r p q d)
-  translation-impl-230b h = long-bounds (rw h)
+  translation-impl-230b = left-refused l r p q d
 
   -- && r == right'
   -- where it passes 64 bytes, the call is refused
   pub translation-impl-231b : shortElement (lent .right) ≡ false → Refuses answers.Refused 8 (pivotPairAnswer l r p q d)
-  translation-impl-231b h = long-bounds (refuted _ (λ b. true≢false (sym (both (shortElement (lent .left)) (shortElement (lent .right)) b .1) ∙ h)))
+  translation-impl-231b = right-refused l r p q d
 
 -- lent a key and the record of an element
 module _ (l : Key) (r : Element) (p q : Key) (d : List ℕ) (a : length l ≤ maxLen) (e : shortElement r ≡ true) (c : length q ≤ maxLen)

@@ -3,36 +3,23 @@ use mathlib.Core.Path.{_≡_, refl, _∙_}
 use mathlib.Core.Bool.{true, false, not, _&&_, _||_}
 use mathlib.Core.List.{List, [], _∷_, _++_}
 use mathlib.Core.Option.{none, some}
-use Prim.Native.Nat.{ℕ, _/_, _%_, _≤_, _<_}
-use native.Mathlib.Omega.{arith}
-use borrow.Author.Tests.{leb-true, le-ltb, lt-ltb}
-use lib.Dec.{eqb, leb}
+use Prim.Native.Nat.{ℕ, _≤_, _<_}
+use borrow.Author.Tests.{le-ltb, lt-ltb}
 use lib.ListN.{length}
 use Rattle.model.specs.declared.Refusal.the-variants.{Shape, Unsorted}
 use Rattle.model.specs.declared.Decided.the-variants as decided
-use Rattle.model.specs.records.Record.{recordSize, records, elements, edges, encodeAll, encodeEdges}
-use Rattle.model.specs.tables.Tables.{PivotTable, EdgeTable, minPivots, maxPivots, all, shortElement, shortEdge, IsStrictlySorted, WFPivots, WFEdges}
+use Rattle.model.specs.records.Record.{records, elements, edges, encodeAll, encodeEdges}
+use Rattle.model.specs.tables.Tables.{PivotTable, EdgeTable, maxPivots, all, shortElement, shortEdge, IsStrictlySorted, WFPivots, WFEdges}
 use Rattle.model.specs.translation.ParentChild.{slotBounds, ParentKeysInChildRange}
 use Rattle.model.specs.calls.Refusals.{Cause, _⇒_, outcome, first, yesOrNo}
 use Rattle.model.specs.calls.TableCalls.{notPivotCount, notEdgeCount, pivotsRead, edgesRead, pivotCauses}
 use Rattle.model.specs.calls.ParentChildCalls.{threeTablesCauses, parentChildCauses, parentChildAnswer}
-use Rattle.model.proofs.keys.Key.{both}
-use Rattle.model.proofs.keys.Order.{refuted}
 use Rattle.model.proofs.calls.Refusals.{none-here, none-before, none-after, or-left, or-right, not-fails, or-neither, not-holds}
-use Rattle.model.proofs.calls.TableCalls.{length-elements, either-fails, causes-shape, causes-wrong, causes-read, causes-wf, table-pivots}
+use Rattle.model.proofs.calls.TableCalls.{either-fails, causes-shape, causes-wrong, causes-read, causes-wf, table-pivots}
 use Rattle.model.proofs.tables.Routing.{wf-sorted}
 use Rattle.contracts.specs.Refuses.{Refuses}
-use Rattle.contracts.proofs.Refusing.{Refused, call-refuses, more-refused, clause-refused, count-refused, pivots-refused}
+use Rattle.contracts.proofs.Refusing.{too-many, this-refused, next-refused, after-refused, Refused, call-refuses, more-refused, clause-refused, count-refused, pivots-refused}
 use Rattle.contracts.proofs.Lent.{accepted, go-on, pivots-read, pivots-lent, edges-read, table-lent}
-use Rattle.contracts.proofs.translation_impl.Shared.{this-refused, next-refused, after-refused}
-
--- more than 64 pivots
-many : (c : List ℕ) → maxPivots < length (elements c) → notPivotCount c ≡ true
-unfolding notPivotCount
-many c h =
-    let n = length c / recordSize in
-    let t = eqb (length c % recordSize) 0 && leb minPivots n in
-    not-fails (t && leb n maxPivots) (refuted (t && leb n maxPivots) (λ b. omega (arith, h, length-elements c, leb-true n maxPivots (both t (leb n maxPivots) b .1))))
 
 -- ---- lent any bytes
 
@@ -84,7 +71,7 @@ module _ (p e c : List ℕ) (slot : ℕ) where
   -- requires |childpivots| < 0x4000_0000_0000_0000
   pub translation-impl-539 : maxPivots < length (elements c) → Refuses decided.Refused 1 (parentChildAnswer p e c slot)
   unfolding pivotCauses
-  translation-impl-539 h = refuses 1 (more-refused 1 pivots _ (this-refused 1 _ _ _ refl (or-left _ _ (or-right (notEdgeCount p e) _ (many c h)))))
+  translation-impl-539 h = refuses 1 (more-refused 1 pivots _ (this-refused 1 _ _ _ refl (or-left _ _ (or-right (notEdgeCount p e) _ (too-many c h)))))
 
   -- ensures b == ParentKeysInChildRange(parentpivots, parentedges, childpivots, slot as int)
   -- where a bound of the slot, translated, passes 64 bytes, the question is refused

@@ -21,9 +21,9 @@ use Rattle.model.proofs.keys.Key.{prefix-is-take}
 use Rattle.model.proofs.ranges.RangePrefix.{prefix-of-left}
 use Rattle.contracts.specs.Refuses.{Refuses}
 use Rattle.contracts.specs.BoundedPivots.{ElementIsKey}
-use Rattle.contracts.proofs.Refusing.{call-refuses, not-key-long}
+use Rattle.contracts.proofs.Refusing.{this-refused, next-refused, call-refuses, not-key-long}
 use Rattle.contracts.proofs.Lent.{accepted, element-lent}
-use Rattle.contracts.proofs.translation_impl.Shared.{this-refused, next-refused, element-fails}
+use Rattle.contracts.proofs.translation_impl.Shared.{element-fails}
 
 -- ---- the prefix of a range, from a key up to an element
 

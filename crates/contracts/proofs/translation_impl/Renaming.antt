@@ -29,9 +29,10 @@ use Rattle.model.proofs.cuts.CutEdges.{edges-say}
 use Rattle.contracts.specs.Refuses.{Refuses}
 use Rattle.contracts.specs.Translation.{TranslatePivotsFrom, TranslateEdgesFrom}
 use Rattle.contracts.proofs.Places.{all-places, places-all}
-use Rattle.contracts.proofs.Refusing.{Refused, call-refuses, more-refused, count-refused, wrong-refused, pivots-refused, table-count-refused, table-pivots-refused, edges-refused}
+use Rattle.contracts.proofs.Refusing.{this-refused, next-refused, after-refused, Refused, call-refuses, more-refused, count-refused, wrong-refused, pivots-refused, table-count-refused, table-pivots-refused, edges-refused}
+use Rattle.contracts.proofs.LongRefused.{new-pivots-refused}
 use Rattle.contracts.proofs.Lent.{accepted, go-on, element-lent, pivots-read, pivots-lent, edges-read, table-lent}
-use Rattle.contracts.proofs.translation_impl.Shared.{this-refused, next-refused, after-refused, element-fails}
+use Rattle.contracts.proofs.translation_impl.Shared.{element-fails}
 
 -- ---- pivots
 
@@ -85,10 +86,7 @@ module _ (v : List ℕ) (p q : Key) (n d : List ℕ) where
   -- ensures pt' == TranslatePivots(pt, prefix, newPrefix, end, 0)
   -- where one of these pivots passes 64 bytes, the call is refused
   pub translation-impl-249b : all shortElement (TranslatePivots (elements v) p q (element n)) ≡ false → Refuses answers.Refused 8 (pivotsAnswer v p q n d)
-  unfolding pivotCauses
-  translation-impl-249b h =
-      call-refuses _ _ 8 (pivotsCauses v p q n d)
-      (after-refused 8 (pivotCauses (notRecord n) (tooLong p || tooLong q || notElement n) v) _ refl (next-refused 8 _ _ _ refl (this-refused 8 _ _ _ refl (rw h))))
+  translation-impl-249b = new-pivots-refused v p q n d
 
 -- lent the records of pivots and of an end
 module _ (pt : PivotTable) (w : WFPivots pt ≡ true) (m : length pt ≤ maxPivots) (p q : Key) (a : length p ≤ maxLen) (b : length q ≤ maxLen)

@@ -1,28 +1,26 @@
 -- TranslationImpl, lines 147 to 197: the translation of a key in a table, and composing prefix pairs.
 use mathlib.Core.Path.{_≡_, refl, _∙_}
-use mathlib.Core.Bool.{true, false}
+use mathlib.Core.Bool.{true, false, _||_}
 use mathlib.Core.List.{List}
 use mathlib.Core.Option.{Option, none, some}
 use Prim.Native.Nat.{ℕ, _≤_, _<_}
-use borrow.Author.Tests.{le-ltb, lt-ltb}
+use borrow.Author.Tests.{lt-ltb}
 use lib.ListN.{length}
 use Rattle.model.specs.declared.Answer.the-variants as answers
 use Rattle.model.specs.keys.Key.{Key, maxLen, tooLong}
 use Rattle.model.specs.records.Record.{elements, edges, encodeAll, encodeEdges}
 use Rattle.model.specs.tables.Tables.{PivotTable, EdgeTable, maxPivots, all, shortEdge, WFPivots, WFEdges, BoundedKey}
 use Rattle.model.specs.translation.PrefixSet.{PrefixSet, Composable, ComposePrefixSet, longPair}
-use Rattle.model.specs.translation.PairState.{PairState, pairOf, stateOf}
+use Rattle.model.specs.translation.PairState.{notPair, PairState, pairOf, stateOf}
 use Rattle.model.specs.translation.Translation.{Translate, TranslateKey}
 use Rattle.model.specs.calls.Refusals.{outcome, first, over}
 use Rattle.model.specs.calls.TableCalls.{pivotCauses, tableCauses}
 use Rattle.model.specs.calls.PairCalls.{thereNumber, composeCauses, composeAnswer, composePair}
 use Rattle.model.specs.calls.TranslationCalls.{translateCauses, translateAnswer, translatePair, translateKeyCauses, translateKeyAnswer, translateKeyLeaves}
-use Rattle.model.proofs.calls.TableCalls.{not-too-long}
 use Rattle.model.proofs.translation.PairState.{state-pair, state-wrong}
 use Rattle.contracts.specs.Refuses.{Refuses}
-use Rattle.contracts.proofs.Refusing.{Refused, call-refuses, more-refused, table-count-refused, table-pivots-refused, edges-refused, edge-slot-refused}
-use Rattle.contracts.proofs.Lent.{accepted, go-on, pivots-read, edges-read, edge-slot-lent}
-use Rattle.contracts.proofs.translation_impl.Shared.{this-refused, next-refused, after-refused}
+use Rattle.contracts.proofs.Refusing.{prefix-refused, this-refused, next-refused, after-refused, Refused, call-refuses, more-refused, table-count-refused, table-pivots-refused, edges-refused, edge-slot-refused}
+use Rattle.contracts.proofs.Lent.{size-lent, accepted, go-on, pivots-read, edges-read, edge-slot-lent}
 
 -- ---- the key's pair, and the key translated: lent any bytes
 
@@ -101,14 +99,14 @@ module _ (pt : PivotTable) (et : EdgeTable) (w : WFPivots pt ≡ true) (m : leng
   translation-impl-170 d t r =
       let o = translateCauses (encodeAll pt) (encodeEdges et) k in
       let c = translateKeyCauses (encodeAll pt) (encodeEdges et) k d in
-      let n : first c ≡ none = go-on some none o _ translate-lent ∙ (unfold outcome in rw (pivots-read pt w, edges-read pt et w m x s, not-too-long (TranslateKey pt et k) t, le-ltb _ _ r)) in
+      let n : first c ≡ none = go-on some none o _ translate-lent ∙ rw (pivots-read pt w, edges-read pt et w m x s) (size-lent (TranslateKey pt et k) d t r) in
       (accepted _ _ c n ∙ rw (pivots-read pt w, edges-read pt et w m x s), accepted _ _ c n ∙ rw (pivots-read pt w, edges-read pt et w m x s))
 
 -- ---- composing
 
 -- requires ComposePrefixSet.requires(a, b)
 pub translation-impl-182 : (a b : PairState) → Composable (pairOf a) (pairOf b) ≡ false → Refuses answers.Refused 7 (composeAnswer a b)
-translation-impl-182 a b h = call-refuses _ _ 7 (composeCauses a b) (next-refused 7 _ _ _ refl (this-refused 7 _ _ _ refl (rw h)))
+translation-impl-182 a b h = call-refuses _ _ 7 (composeCauses a b) (prefix-refused (notPair a || notPair b) (Composable (pairOf a) (pairOf b)) _ h)
 
 -- ensures c == ComposePrefixSet(a, b)
 pub translation-impl-183 : (a b : Option PrefixSet) → longPair a ≡ false → longPair b ≡ false → Composable a b ≡ true → longPair (ComposePrefixSet a b) ≡ false

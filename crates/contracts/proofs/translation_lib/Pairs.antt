@@ -1,39 +1,29 @@
 -- TranslationLib, lines 154 to 194: the pair of a key's slot, and pairs applied and composed.
 use mathlib.Core.Path.{_≡_, refl, _∙_}
-use mathlib.Core.Bool.{Bool, true, false, not, _||_, false≢true, or-comm}
-use mathlib.Core.List.{List, [], _∷_}
+use mathlib.Core.Bool.{Bool, true, false, _||_, false≢true, or-comm}
+use mathlib.Core.List.{List}
 use mathlib.Core.Option.{Option, none, some}
 use Prim.Native.Nat.{ℕ, _≤_, _<_}
 use native.Mathlib.Omega.{arith}
-use borrow.Author.Tests.{le-ltb, not-false}
 use lib.ListN.{length}
 use Rattle.model.specs.declared.Refusal.{Refusal}
-use Rattle.model.specs.declared.Refusal.the-variants.{Malformed, NotPrefix}
 use Rattle.model.specs.declared.Answer.the-variants as answers
 use Rattle.model.specs.keys.Key.{Key, Bytes, maxLen, tooLong, IsPrefix}
 use Rattle.model.specs.tables.Tables.{PivotTable, EdgeTable, WFPivots, BoundedKey}
 use Rattle.model.specs.translation.PrefixSet.{PrefixSet, RevPrefixSet, Begins, ApplyPrefixSet, Composable, longPair}
 use Rattle.model.specs.translation.PairState.{PairState, notPair, pairOf, stateOf}
 use Rattle.model.specs.translation.Translation.{Translate}
-use Rattle.model.specs.calls.Refusals.{Cause, _⇒_, outcome, first, over}
+use Rattle.model.specs.calls.Refusals.{outcome, over}
 use Rattle.model.specs.calls.KeyCalls.{sizeCauses}
 use Rattle.model.specs.calls.PairCalls.{applyCauses, applyAnswer, applyLeaves, composeAnswer}
 use Rattle.model.proofs.keys.Key.{prefix-refl, prefix-nested}
 use Rattle.model.proofs.translation.PrefixSet.{applied-begins}
 use Rattle.model.proofs.translation.PairState.{state-pair}
 use Rattle.model.proofs.cuts.Preserved.{translate-begins}
-use Rattle.model.proofs.calls.Refusals.{none-here, none-later}
-use Rattle.model.proofs.calls.TableCalls.{not-too-long}
 use Rattle.model.proofs.calls.PairCalls.{only-state-sizes}
 use Rattle.contracts.specs.Refuses.{Refuses}
-use Rattle.contracts.proofs.Refusing.{Refused, clause-refused, more-refused, call-refuses}
-use Rattle.contracts.proofs.Lent.{accepted}
-
--- a clause whose failure is cause 7, after cause 2
-prefix-refused : (wrong clause : Bool) (cs : List Cause) → clause ≡ false → Refused 7 ((wrong ⇒ Malformed) ∷ (not clause ⇒ NotPrefix) ∷ cs)
-prefix-refused wrong clause cs h =
-    let two = (wrong ⇒ Malformed) ∷ (not clause ⇒ NotPrefix) ∷ [] in
-    more-refused 7 two cs (clause-refused 7 two clause refl (λ n. not-false clause (none-here _ NotPrefix [] (none-later wrong Malformed _ n))) h)
+use Rattle.contracts.proofs.Refusing.{prefix-refused, Refused, call-refuses}
+use Rattle.contracts.proofs.Lent.{size-lent, accepted}
 
 -- ---- the pair of a key's slot
 
@@ -53,15 +43,10 @@ module _ (pt : PivotTable) (et : EdgeTable) (k : Key) (w : WFPivots pt ≡ true)
 
 -- ---- a pair applied
 
--- causes 8 and 10 of a key that is short and has room
-no-size-cause : (x : Key) (d : List ℕ) → length x ≤ maxLen → length x ≤ length d → first (sizeCauses x d) ≡ none
-unfolding outcome
-no-size-cause x d s r = rw (not-too-long x s, le-ltb (length d) (length x) r)
-
 module _ (pset : Option PrefixSet) (k : Key) (d : List ℕ) (p : longPair pset ≡ false) (s : length k ≤ maxLen) (b : Begins pset k ≡ true)
     (t : length (ApplyPrefixSet pset k) ≤ maxLen) (r : length (ApplyPrefixSet pset k) ≤ length d) where
   applied : {A : Type 0} (f : Refusal → A) (v : A) → outcome f (applyCauses (stateOf pset) k d) v ≡ v
-  applied f v = only-state-sizes f v pset k d p s b ∙ accepted f v (sizeCauses (ApplyPrefixSet pset k) d) (no-size-cause (ApplyPrefixSet pset k) d t r)
+  applied f v = only-state-sizes f v pset k d p s b ∙ accepted f v (sizeCauses (ApplyPrefixSet pset k) d) (size-lent (ApplyPrefixSet pset k) d t r)
 
   -- function method ApplyPrefixSet(pset: Option<PrefixSet>, key: Key) : (key': Key)
   -- the call, lent the pair, the key and room, answers the changed key's length and leaves its bytes

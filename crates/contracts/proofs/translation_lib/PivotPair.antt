@@ -1,15 +1,13 @@
 -- TranslationLib, lines 247 to 277 and 413: an element, a range and a slot under another prefix, and parent and child.
 use mathlib.Core.Path.{_≡_, refl, sym, _∙_}
-use mathlib.Core.Bool.{true, false, not, _&&_, _||_, and-false, false≢true}
-use mathlib.Core.List.{List, [], _∷_}
+use mathlib.Core.Bool.{true, false, false≢true}
+use mathlib.Core.List.{List}
 use Prim.Native.Nat.{ℕ, _+_, _-_, _≤_, _<_}
 use native.Mathlib.Omega.{arith}
-use borrow.Author.Tests.{not-false}
 use lib.Dec.{leb}
 use lib.ListN.{length}
-use Rattle.model.specs.declared.Refusal.the-variants.{Shape, Malformed, NotPrefix, TooLong}
 use Rattle.model.specs.declared.Answer.the-variants as answers
-use Rattle.model.specs.keys.Key.{Key, Bytes, maxLen, tooLong, IsPrefix}
+use Rattle.model.specs.keys.Key.{Key, Bytes, maxLen, IsPrefix}
 use Rattle.model.specs.keys.Order.{Element, key, max, isKey, lt}
 use Rattle.model.specs.records.Record.{edge, noEdge}
 use Rattle.model.specs.ranges.RangePrefix.{PivotLcp}
@@ -17,43 +15,20 @@ use Rattle.model.specs.ranges.UpperBound.{ShortestUncommonPrefix}
 use Rattle.model.specs.tables.Tables.{PivotTable, EdgeTable, NumBuckets, pivotAt, edgeAt, keyOf, shortElement, WFPivots, ContainsRange}
 use Rattle.model.specs.translation.Renaming.{TranslateElement, translateRight, TranslatePivotPairInternal}
 use Rattle.model.specs.translation.ParentChild.{slotBounds, boundsUnder, ParentKeysInChildRange}
-use Rattle.model.specs.calls.Refusals.{_⇒_}
-use Rattle.model.specs.calls.KeyCalls.{notRecord, notElement}
-use Rattle.model.specs.calls.RenamingCalls.{newBounds, longBounds, pivotPairAnswer}
+use Rattle.model.specs.calls.RenamingCalls.{newBounds, pivotPairAnswer}
 use Rattle.model.proofs.keys.ChangePrefix.{change-begins}
 use Rattle.model.proofs.ranges.RangePrefix.{prefix-of-left}
 use Rattle.model.proofs.tables.Places.{sorted-at}
 use Rattle.model.proofs.tables.Routing.{wf-sorted, wf-keys}
 use Rattle.model.proofs.cuts.Between.{BytesT, bytes-at}
 use Rattle.model.proofs.cuts.CutEdges.{slotPrefix}
-use Rattle.model.proofs.calls.Refusals.{none-here, none-later}
 use Rattle.model.proofs.translation.ParentChild.{parent-child-none}
 use Rattle.model.proofs.translation.PivotPair.{element-short, Lacks, isMax, other, right-short, pair-rises, pair-shares}
 use Rattle.contracts.specs.Refuses.{Refuses}
 use Rattle.contracts.specs.BoundedPivots.{ElementIsKey}
 use Rattle.contracts.specs.Translation.{AllKeysInBetweenHasPrefix, ShortestUncommonPrefixAt}
-use Rattle.contracts.proofs.Refusing.{clause-refused, more-refused, call-refuses}
+use Rattle.contracts.proofs.LongRefused.{left-refused, right-refused}
 use Rattle.contracts.proofs.translation_lib.Ranges.{translation-lib-215}
-
--- ---- past 64 bytes the call refuses
-
-module _ (l : Key) (r : List ℕ) (p q : Key) (d : List ℕ) where
-  -- a bound that is too long
-  bounds-refused : (shortElement (newBounds l r p q .left) && shortElement (newBounds l r p q .right)) ≡ false → Refuses answers.Refused 8 (pivotPairAnswer l r p q d)
-  bounds-refused h =
-      let cs =
-      (notRecord r ⇒ Shape) ∷ (tooLong l || notElement r || tooLong p || tooLong q ⇒ Malformed) ∷ (not (IsPrefix p l) ⇒ NotPrefix) ∷
-      (longBounds (newBounds l r p q) ⇒ TooLong) ∷ []
-      in
-      call-refuses _ _ 8 _ (more-refused 8 cs _
-      (clause-refused 8 cs _ refl (λ n. not-false _ (none-here _ TooLong [] (none-later _ NotPrefix _ (none-later _ Malformed _ (none-later _ Shape _ n))))) h))
-
-  -- the left one, or the right one
-  left-refused : shortElement (newBounds l r p q .left) ≡ false → Refuses answers.Refused 8 (pivotPairAnswer l r p q d)
-  left-refused h = bounds-refused (rw h)
-
-  right-refused : shortElement (newBounds l r p q .right) ≡ false → Refuses answers.Refused 8 (pivotPairAnswer l r p q d)
-  right-refused h = bounds-refused (rw (h, and-false))
 
 -- ---- one element
 

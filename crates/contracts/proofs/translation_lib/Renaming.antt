@@ -1,37 +1,32 @@
 -- TranslationLib, lines 297 to 326: pivots and edges under another prefix, from every place idx on.
 use mathlib.Core.Path.{_≡_, refl, sym, ap, _∙_}
-use mathlib.Core.Bool.{true, false, not, _||_}
-use mathlib.Core.List.{List, [], _∷_, _++_}
+use mathlib.Core.Bool.{true, false}
+use mathlib.Core.List.{List, [], _∷_}
 use Prim.Native.Nat.{ℕ, suc, _+_, _*_, _-_, _≤_, _<_}
 use native.Mathlib.Numerals.{add-one}
 use native.Mathlib.Nat.{add-zero, add-comm}
 use native.Mathlib.Omega.{arith}
-use borrow.Author.Tests.{not-false}
 use lib.ListN.{length, take, drop, length-drop, drop-of-length-le}
 use lib.Seq.{drop-cons, getD-drop}
-use Rattle.model.specs.declared.Refusal.the-variants.{NotPrefix, TooLong}
 use Rattle.model.specs.declared.Answer.the-variants as answers
 use Rattle.model.specs.declared.Decided.the-variants as decided
-use Rattle.model.specs.keys.Key.{Key, tooLong, IsPrefix}
+use Rattle.model.specs.keys.Key.{Key, IsPrefix}
 use Rattle.model.specs.keys.Order.{Element, max, isKey, lt}
 use Rattle.model.specs.records.Record.{Edge, edge, noEdge, recordSize, elements}
 use Rattle.model.specs.ranges.RangePrefix.{PivotLcp}
-use Rattle.model.specs.tables.Tables.{PivotTable, EdgeTable, NumBuckets, pivotAt, edgeAt, lastPivot, keyOf, all, ElementsAreKeys, IsStrictlySorted, WFPivots, WFEdges}
+use Rattle.model.specs.tables.Tables.{PivotTable, EdgeTable, NumBuckets, pivotAt, edgeAt, lastPivot, keyOf, ElementsAreKeys, IsStrictlySorted, WFPivots, WFEdges}
 use Rattle.model.specs.translation.Renaming.{TranslateElement, TranslatePivots, filled, edgesFrom, TranslateEdges}
-use Rattle.model.specs.calls.Refusals.{_⇒_}
-use Rattle.model.specs.calls.KeyCalls.{notRecord, notElement}
-use Rattle.model.specs.calls.TableCalls.{pivotCauses, wfPivotsAnswer}
-use Rattle.model.specs.calls.RenamingCalls.{butLast, begun, newPivots, pivotsAnswer, pivotsLeaves}
+use Rattle.model.specs.calls.TableCalls.{wfPivotsAnswer}
+use Rattle.model.specs.calls.RenamingCalls.{newPivots, pivotsAnswer, pivotsLeaves}
 use Rattle.model.proofs.tables.Places.{sorted-tail}
 use Rattle.model.proofs.tables.Routing.{wf-of}
 use Rattle.model.proofs.cuts.CutEdges.{slotPrefix, edges-say}
 use Rattle.model.proofs.translation.Renaming.{pivots-count, pivots-last, pivots-keys, pivots-begin, pivots-back, pivots-rise, pivots-from, edges-count, edges-kept, edges-filled, edges-from}
-use Rattle.model.proofs.calls.Refusals.{none-here, none-later, none-after}
 use Rattle.model.proofs.calls.TableCalls.{causes-wf}
 use Rattle.model.proofs.calls.RenamingCalls.{pivots-read, pivots-pass}
 use Rattle.contracts.specs.Refuses.{Refuses}
 use Rattle.contracts.specs.Translation.{TranslatePivotsFrom, TranslateEdgesFrom}
-use Rattle.contracts.proofs.Refusing.{clause-refused, more-refused, call-refuses}
+use Rattle.contracts.proofs.LongRefused.{new-pivots-refused}
 use Rattle.contracts.proofs.Lent.{accepted}
 use Rattle.contracts.proofs.translation_lib.Shared.{from-place}
 
@@ -100,15 +95,6 @@ module _ (pt : PivotTable) (p q : Key) (end : Element) (idx : ℕ) (h : idx < Nu
         → pivotAt pt (idx + i) ≡ TranslateElement q p (pivotAt (TranslatePivotsFrom pt p q end idx) i)
     translation-lib-307 i l = rw (place i) (sym (pivots-back pt p q end w f (idx + i) (inside i l)))
 
--- the call refuses where a new pivot passes 64 bytes
-long-refused : (v : List ℕ) (p q : Key) (n d : List ℕ) → ElementsAreKeys (newPivots v p q n) ≡ false → Refuses answers.Refused 8 (pivotsAnswer v p q n d)
-unfolding pivotCauses
-long-refused v p q n d h =
-    let three = pivotCauses (notRecord n) (tooLong p || tooLong q || notElement n) v in
-    let cs = three ++ (not (all (begun p) (butLast (elements v))) ⇒ NotPrefix) ∷ (not (ElementsAreKeys (newPivots v p q n)) ⇒ TooLong) ∷ [] in
-    call-refuses _ _ 8 _ (more-refused 8 cs _
-    (clause-refused 8 cs _ refl (λ e. not-false _ (none-here _ TooLong [] (none-later _ NotPrefix _ (none-after three _ e)))) h))
-
 -- ensures WFPivots(pt')
 -- of the call: what it leaves where it is accepted are those pivots, well formed, and they pass the check; past 64 bytes it refuses
 pub translation-lib-303b : (v : List ℕ) (p q : Key) (n d : List ℕ)
@@ -121,7 +107,7 @@ translation-lib-303b v p q n d = (
       let c = pivots-pass v p q n d m h in
       let r = pivots-read v p q n d m h in
       (r, rw r at (causes-wf false false _ c), accepted decided.Refused decided.Yes _ c),
-  long-refused v p q n d,
+  new-pivots-refused v p q n d,
 )
 
 -- ---- TranslateEdges
