@@ -1,7 +1,7 @@
 -- What a cut in a slot answers and writes.
 use mathlib.Core.Path.{_≡_, refl, sym, ap, _∙_}
 use mathlib.Core.Bool.{Bool, true, false}
-use mathlib.Core.List.{List, [], append-nil}
+use mathlib.Core.List.{List, []}
 use mathlib.Core.Option.{none}
 use Prim.Native.Nat.{ℕ, _+_, _*_, _/_, _≤_, _<_}
 use native.Mathlib.Nat.{add-comm}
@@ -9,7 +9,7 @@ use native.Mathlib.Omega.{arith}
 use mir.Syntax.{w8, w16}
 use mir.Val.{Fits}
 use borrow.Author.Tests.{lt-ltb, le-ltb, not-false}
-use lib.ListN.{length, getD, length-append, drop-of-length-le}
+use lib.ListN.{length, getD, length-append}
 use Rattle.model.specs.declared.Refusal.{Refusal}
 use Rattle.model.specs.declared.Refusal.the-variants.{TooLong, NoRoom}
 use Rattle.model.specs.declared.Answer.{Answer}
@@ -19,13 +19,13 @@ use Rattle.model.specs.inner.Written.{clipped}
 use Rattle.model.specs.tables.Tables.{all, shortEdge}
 use Rattle.model.specs.cuts.Sides.{inside, cutoff}
 use Rattle.model.specs.inner.CutSlot.{keptPart, beside, edgePlace}
-use Rattle.model.specs.calls.Refusals.{outcome, first, answer, leaves, over}
+use Rattle.model.specs.calls.Refusals.{outcome, first, answer, leaves}
 use Rattle.model.specs.inner.Written.{into}
 use Rattle.model.specs.calls.KeyCalls.{noRoom}
 use Rattle.model.specs.calls.CutCalls.{cutPivots, cutEdges, writeCauses}
 use Rattle.model.specs.calls.TableCalls.{edgeSlotCauses}
 use Rattle.model.proofs.calls.Refusals.{here, later, refused-first, refused, accepted, passed, none-here, or-left, or-right}
-use Rattle.model.proofs.Lists.{into-over, clipped-all}
+use Rattle.model.proofs.Lists.{over-all, into-over, clipped-all}
 use Rattle.model.proofs.records.Record.{length-record, length-encodeEdge}
 use Rattle.model.proofs.keys.Key.{bytes-of}
 use Rattle.model.proofs.calls.CutCalls.{cut-slot-small, cut-key, cut-slot, cut-edges-less, cut-short, cut-pivots-size, cut-edges-size, cut-count, cut-pivots-bytes, cut-edges-bytes}
@@ -35,11 +35,6 @@ use Rattle.cuts.specs.Slot.{edgeCut, longCauses, roomCauses}
 length-beside : (left : Bool) (a b : List ℕ) → length (beside left a b) ≡ length a + length b
 length-beside true a b = length-append a b
 length-beside false a b = length-append b a ∙ add-comm (length b) (length a)
-
--- what is written over as many bytes is all that is left
-over-all : (w d : List ℕ) → length d ≤ length w → over w d ≡ w
-unfolding over
-over-all w d h = rw (drop-of-length-le d h) (append-nil w)
 
 module _ (left : Bool) (p e k : List ℕ) (c : ℕ) (h : first (edgeSlotCauses p e k (inside left (elements p) k)) ≡ none)
     (f : c ≡ cutoff left (elements p) k) where

@@ -82,6 +82,11 @@ pub take-over : (a d : List ℕ) → take (length a) (over a d) ≡ a
 unfolding over
 take-over a d = take-append-seam a (drop (length a) d)
 
+-- what is written over as many bytes is all that is left
+pub over-all : (w d : List ℕ) → length d ≤ length w → over w d ≡ w
+unfolding over
+over-all w d h = rw (drop-of-length-le d h) (append-nil w)
+
 drop-over : (a d : List ℕ) → drop (length a) (over a d) ≡ drop (length a) d
 unfolding over
 drop-over a d = drop-append-seam a (drop (length a) d)
@@ -150,6 +155,12 @@ module _ {A : Type 0} (test : A → Bool) where
   all-inside [] i d l h = absurd (omega arith)
   all-inside (x ∷ xs) zero d l h = both (test x) (all test xs) h .0
   all-inside (x ∷ xs) (suc i) d l h = all-inside xs i d (omega arith) (both (test x) (all test xs) h .1)
+
+  -- and all do where each place inside passes
+  pub inside-all : (xs : List A) (d : A) → ((i : ℕ) → i < length xs → test (getD xs i d) ≡ true) → all test xs ≡ true
+  unfolding all
+  inside-all [] d f = refl
+  inside-all (x ∷ xs) d f = rw (f 0 (omega arith)) (inside-all xs d (λ i l. f (suc i) (omega arith)))
 
   -- all of two lists pass where all of each do
   pub all-append : (xs ys : List A) → all test (xs ++ ys) ≡ (all test xs && all test ys)

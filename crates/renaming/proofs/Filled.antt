@@ -32,16 +32,16 @@ use Rattle.model.proofs.tables.Routing.{wf-all-short}
 use Rattle.model.proofs.calls.TableCalls.{length-elements, length-edges, element-at, edge-at}
 use Rattle.model.proofs.calls.TableCalls.{table-wf, table-count, table-edges-whole, table-edges-short}
 use Rattle.model.proofs.calls.PivotKeys.{key-at}
-use Rattle.renaming.proofs.Filling.{filled-length, filled-at, filled-short}
+use Rattle.model.proofs.translation.Renaming.{edges-count, edges-at, edges-short}
 
 module _ (p e : List ℕ) (h : first (tableCauses false false p e) ≡ none) where
   -- there are as many as the edges lent
   new-count : length (newEdges p e) ≡ length e / 66
-  new-count = filled-length (edges e) (elements p) (table-count _ _ p e h) ∙ length-edges e
+  new-count = edges-count (edges e) (elements p) (table-count _ _ p e h) ∙ length-edges e
 
   -- and none is too long
   new-short : all shortEdge (newEdges p e) ≡ true
-  new-short = filled-short (edges e) (elements p) (wf-all-short (elements p) (table-wf _ _ p e h)) (table-edges-short _ _ p e h)
+  new-short = edges-short (edges e) (elements p) (wf-all-short (elements p) (table-wf _ _ p e h)) (table-edges-short _ _ p e h)
 
   -- ---- one record
 
@@ -57,7 +57,7 @@ module _ (p e : List ℕ) (h : first (tableCauses false false p e) ≡ none) whe
     -- its edge is filled by the records of its place
     filled-here : edgeAt (newEdges p e) i ≡ filled (PivotLcp (key (keyBytes (recordAt p i))) (element (recordAt p (i + 1)))) (edgeOf (recordAt e i))
     filled-here =
-        filled-at (edges e) (elements p) i (table-count _ _ p e h) (omega (arith, length-edges e))
+        edges-at (edges e) (elements p) (table-count _ _ p e h) i (omega (arith, length-edges e))
         ∙ rw (key-at p (table-wf _ _ p e h) i pivots-here, element-at p (i + 1) pivots-here, edge-at e i m)
 
     module _ (a : List ℕ) (t : Bool) (g : a ≡ recordAt e i) (f : t ≡ eqb (lengthField a) noEdgeMark) where
@@ -131,7 +131,7 @@ module _ (p e : List ℕ) (h : first (tableCauses false false p e) ≡ none) whe
   module _ {A : Type 0} (f : Refusal → A) (v x : A) (d : List ℕ) where
     -- the filled edges take the room of the edges lent
     size : length (newEdges p e) * recordSize ≡ length e
-    size = sym (rw (filled-length (edges e) (elements p) (table-count _ _ p e h)) (table-edges-whole _ _ p e h))
+    size = sym (rw (edges-count (edges e) (elements p) (table-count _ _ p e h)) (table-edges-whole _ _ p e h))
 
     -- a shorter destination is refused
     pub no-room : length d < length e → x ≡ f NoRoom → x ≡ outcome f (edgesCauses p e d) v

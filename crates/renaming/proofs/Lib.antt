@@ -1,4 +1,3 @@
-pub mod Filling
 pub mod Filled
 pub mod JoinedKeys
 pub mod KeyPass

@@ -1,12 +1,12 @@
 -- The new pivots of a table that has none of the causes 1 to 3, 7 and 8, by their records: each key made at its place, all written in turn, and the end after them.
 use mathlib.Core.Path.{_≡_, _∙_}
 use mathlib.Core.Bool.{Bool, true}
-use mathlib.Core.List.{List, [], _∷_, _++_, append-nil}
-use Prim.Native.Nat.{ℕ, zero, suc, _+_, _*_, _-_, _/_, _≤_, _<_}
+use mathlib.Core.List.{List, [], _++_}
+use Prim.Native.Nat.{ℕ, _+_, _*_, _-_, _/_, _≤_, _<_}
 use native.Mathlib.Omega.{arith}
 use borrow.Author.Tests.{leb-true, not-false}
 use borrow.Rule.Slice.PartMut.{putMid}
-use lib.ListN.{length, take, drop, getD, length-map, length-drop, drop-of-length-le}
+use lib.ListN.{length, take, drop, getD, length-map, length-drop}
 use Rattle.model.specs.declared.Refusal.the-variants.{NotPrefix, TooLong}
 use Rattle.model.specs.keys.Key.{changePrefix}
 use Rattle.model.specs.keys.Order.{key, max, lt}
@@ -17,27 +17,16 @@ use Rattle.model.specs.translation.Renaming.{TranslateElement}
 use Rattle.model.specs.calls.Refusals.{over}
 use Rattle.model.specs.calls.RenamingCalls.{butLast, begun, lastTranslated}
 use Rattle.model.proofs.Lists.{rest, getD-map}
-use Rattle.model.proofs.keys.Key.{both, prefix-length, length-change}
+use Rattle.model.proofs.keys.Key.{prefix-length, length-change}
 use Rattle.model.proofs.records.Record.{length-encode, element-encode}
 use Rattle.model.proofs.records.InTurn.{turn-start, turn-next, turn-end}
 use Rattle.model.proofs.tables.Routing.{wf-count}
 use Rattle.model.proofs.calls.Refusals.{none-here, none-later}
+use Rattle.model.proofs.Lists.{over-all, all-inside}
 use Rattle.model.proofs.calls.TableCalls.{length-elements}
 use Rattle.model.proofs.calls.PivotKeys.{key-at}
 use Rattle.renaming.specs.Change.{changedPivots, Changeable}
 use Rattle.renaming.proofs.KeyPass.{but-count, but-at}
-
--- what is written over as many bytes is all that is left
-over-all : (w d : List ℕ) → length d ≤ length w → over w d ≡ w
-unfolding over
-over-all w d h = rw (drop-of-length-le d h) (append-nil w)
-
--- each place inside a list that passes a test passes it
-all-inside : {A : Type 0} (test : A → Bool) (xs : List A) (i : ℕ) (d : A) → i < length xs → all test xs ≡ true → test (getD xs i d) ≡ true
-unfolding all
-all-inside test [] i d m h = absurd (omega arith)
-all-inside test (x ∷ xs) zero d m h = both (test x) (all test xs) h .0
-all-inside test (x ∷ xs) (suc i) d m h = all-inside test xs i d (omega arith) (both (test x) (all test xs) h .1)
 
 module _ (v p q : List ℕ) (c : Changeable v p q) where
   -- each pivot but the last begins with the prefix

@@ -13,12 +13,11 @@ use Rattle.model.specs.records.Record.{edge}
 use Rattle.model.specs.tables.Tables.{PivotTable, EdgeTable, pivotAt, edgeAt, shortElement, WFPivots, BoundedKey, Route}
 use Rattle.model.specs.translation.Translation.{TranslateKey}
 use Rattle.model.specs.translation.ParentChild.{ParentKeysInChildRange}
-use Rattle.model.proofs.Lists.{le-or-lt}
+use Rattle.model.proofs.Lists.{inside-all, le-or-lt}
 use Rattle.model.proofs.cuts.Between.{BytesT}
 use Rattle.model.proofs.tables.Places.{sorted-at, sorted-of}
 use Rattle.model.proofs.tables.Routing.{wf-of, wf-sorted, wf-short}
 use Rattle.model.proofs.translation.ParentChild.{parent-child-bounded}
-use Rattle.contracts.proofs.Places.{places-all}
 
 module _ (pt : PivotTable) (i : ℕ) (h : i < length pt) where
   abbrev without : PivotTable
@@ -44,7 +43,7 @@ module _ (pt : PivotTable) (i : ℕ) (h : i < length pt) where
 pub bounded-pivots-234 : (pt : PivotTable) (i : ℕ) → WFPivots pt ≡ true → 2 < length pt → i < length pt → WFPivots (take i pt ++ drop (i + 1) pt) ≡ true
 bounded-pivots-234 pt i w m h =
     let n = length-without pt i h in
-    wf-of (without pt i h) (sorted-of (without pt i h) rises) (places-all shortElement max (without pt i h) short) (omega arith)
+    wf-of (without pt i h) (sorted-of (without pt i h) rises) (inside-all shortElement (without pt i h) max short) (omega arith)
   where
     short : (j : ℕ) → j < length (take i pt ++ drop (i + 1) pt) → shortElement (pivotAt (take i pt ++ drop (i + 1) pt) j) ≡ true
     short j l =

@@ -16,7 +16,7 @@ use Rattle.model.specs.tables.Tables.{ContainsRange, BoundedKey, ValidLeftCutOf
 use Rattle.model.specs.calls.Refusals.{outcome, first, yesOrNo}
 use Rattle.model.specs.calls.KeyCalls.{notRecord, notElement}
 use Rattle.model.specs.calls.TableCalls.{pivotCauses, keyCauses, containsRangeCauses, containsRangeAnswer, boundedKeyAnswer, validLeftCutOffKeyAnswer, pivotInsertableAnswer}
-use Rattle.model.proofs.Lists.{getD-map}
+use Rattle.model.proofs.Lists.{all-inside, inside-all, getD-map}
 use Rattle.model.proofs.keys.Key.{both}
 use Rattle.model.proofs.keys.Order.{lte-trans, lte-trans-lt}
 use Rattle.model.proofs.tables.Places.{sorted-lte}
@@ -24,7 +24,7 @@ use Rattle.model.proofs.calls.Refusals.{not-fails}
 use Rattle.model.proofs.calls.TableCalls.{not-too-long}
 use Rattle.contracts.specs.Refuses.{Refuses}
 use Rattle.contracts.specs.BoundedPivots.{ElementIsKey, KeysToElements, BoundedKeySeq, BoundedSortedKeySeq}
-use Rattle.contracts.proofs.Places.{all-places, places-all, same-tests}
+use Rattle.contracts.proofs.Tests.{same-tests}
 use Rattle.contracts.proofs.Refusing.{this-refused, after-refused, more-refused, call-refuses, not-key-long, wrong-refused, count-refused, pivots-refused}
 use Rattle.contracts.proofs.Lent.{accepted, go-on, element-lent, pivots-read, pivots-lent}
 
@@ -68,7 +68,7 @@ pub bounded-pivots-108 : (pt : PivotTable) (keys : List Key)
     → (BoundedKeySeq pt keys ≡ true → (i : ℕ) → i < length keys → BoundedKey pt (getD keys i []) ≡ true)
     × (((i : ℕ) → i < length keys → BoundedKey pt (getD keys i []) ≡ true) → BoundedKeySeq pt keys ≡ true)
 unfolding BoundedKeySeq
-bounded-pivots-108 pt keys = (all-places (BoundedKey pt) [] keys, places-all (BoundedKey pt) [] keys)
+bounded-pivots-108 pt keys = (λ h i l. all-inside (BoundedKey pt) keys i [] l h, inside-all (BoundedKey pt) keys [])
 
 -- of keys that rise strictly, those between two bounded ones are bounded
 between-bounded : (pt : PivotTable) (keys : List Key) (i n : ℕ) → IsStrictlySorted (KeysToElements keys) ≡ true → i ≤ n → n < length keys
@@ -95,8 +95,8 @@ bounded-pivots-114 pt (k ∷ ks) s =
     rw (lt-ltb 0 (length keys) (omega arith))
     (same-tests (BoundedKey pt k && BoundedKey pt (getD keys n [])) (all (BoundedKey pt) keys)
     (λ h. let c = both (BoundedKey pt k) (BoundedKey pt (getD keys n [])) h in
-    places-all (BoundedKey pt) [] keys (λ i l. between-bounded pt keys i n s (omega arith) (omega arith) (c .0) (c .1)))
-    (λ h. rw (all-places (BoundedKey pt) [] keys h 0 (omega arith)) (all-places (BoundedKey pt) [] keys h n (omega arith))))
+    inside-all (BoundedKey pt) keys [] (λ i l. between-bounded pt keys i n s (omega arith) (omega arith) (c .0) (c .1)))
+    (λ h. rw (all-inside (BoundedKey pt) keys 0 [] (omega arith) h) (all-inside (BoundedKey pt) keys n [] (omega arith) h)))
 
 -- ---- BoundedKey, ValidLeftCutOffKey and PivotInsertable, of the pivots p and the key k
 

@@ -20,7 +20,7 @@ use Rattle.model.proofs.tables.Routing.{wf-sorted, route-inside, route-lower, r
 use Rattle.model.proofs.tables.Routing.{cutoff-left-inside, cutoff-left-lower, cutoff-left-upper}
 use Rattle.contracts.specs.Refuses.{Refuses}
 use Rattle.contracts.specs.BoundedPivots.{PivotTableBucketKeySet}
-use Rattle.contracts.proofs.Places.{same-tests}
+use Rattle.contracts.proofs.Tests.{same-tests}
 use Rattle.contracts.proofs.Refusing.{more-refused, call-refuses, count-refused, pivots-refused, slot-refused}
 use Rattle.contracts.proofs.Lent.{accepted, pivots-read, slot-lent}
 

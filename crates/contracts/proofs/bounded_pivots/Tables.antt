@@ -11,13 +11,12 @@ use Rattle.model.specs.records.Record.{elements, encodeAll}
 use Rattle.model.specs.tables.Tables.{PivotTable, NumBuckets, maxPivots, pivotAt, lastPivot, shortElement, ElementsAreKeys, IsStrictlySorted, WFPivots, ContainsAllKeys}
 use Rattle.model.specs.calls.Refusals.{yesOrNo}
 use Rattle.model.specs.calls.TableCalls.{pivotCauses, containsAllKeysAnswer}
-use Rattle.model.proofs.Lists.{getD-map}
+use Rattle.model.proofs.Lists.{getD-map, all-inside, inside-all}
 use Rattle.model.proofs.keys.Key.{both}
 use Rattle.model.proofs.keys.Order.{lte-refl, lte-antisym}
 use Rattle.model.proofs.tables.Routing.{wf-of, wf-sorted, wf-keys, wf-all-short, wf-count}
 use Rattle.contracts.specs.Refuses.{Refuses}
 use Rattle.contracts.specs.BoundedPivots.{ElementIsKey, KeysToElements}
-use Rattle.contracts.proofs.Places.{all-places, places-all}
 use Rattle.contracts.proofs.Refusing.{call-refuses, count-refused, pivots-refused}
 use Rattle.contracts.proofs.Lent.{accepted, pivots-read, pivots-lent}
 
@@ -32,7 +31,7 @@ pub bounded-pivots-37 : (pt : PivotTable)
     → (ElementsAreKeys pt ≡ true → (i : ℕ) → i < length pt → isKey (pivotAt pt i) ≡ true → ElementIsKey (pivotAt pt i) ≡ true)
     × (((i : ℕ) → i < length pt → isKey (pivotAt pt i) ≡ true → ElementIsKey (pivotAt pt i) ≡ true) → ElementsAreKeys pt ≡ true)
 bounded-pivots-37 pt =
-    (λ h i l k. bounded-pivots-30 (pivotAt pt i) ∙ rw k (all-places shortElement max pt h i l), λ f. places-all shortElement max pt (λ i l. short (pivotAt pt i) (f i l)))
+    (λ h i l k. bounded-pivots-30 (pivotAt pt i) ∙ rw k (all-inside shortElement pt i max l h), λ f. inside-all shortElement pt max (λ i l. short (pivotAt pt i) (f i l)))
   where
     short : (e : Element) → (isKey e ≡ true → ElementIsKey e ≡ true) → shortElement e ≡ true
     short (key k) f = f refl

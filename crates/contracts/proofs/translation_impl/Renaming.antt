@@ -19,7 +19,7 @@ use Rattle.model.specs.calls.Refusals.{outcome, first, over}
 use Rattle.model.specs.calls.KeyCalls.{notElement, notRecord}
 use Rattle.model.specs.calls.TableCalls.{pivotCauses, tableCauses, notEdgeCount}
 use Rattle.model.specs.calls.RenamingCalls.{butLast, begun, pivotsCauses, pivotsAnswer, pivotsLeaves, edgesCauses, edgesAnswer, edgesLeaves}
-use Rattle.model.proofs.Lists.{le-or-lt}
+use Rattle.model.proofs.Lists.{all-inside, inside-all, le-or-lt}
 use Rattle.model.proofs.calls.Refusals.{or-left, or-right, not-fails}
 use Rattle.model.proofs.calls.TableCalls.{not-too-long, length-elements, length-edges}
 use Rattle.model.proofs.keys.Order.{refuted}
@@ -28,7 +28,6 @@ use Rattle.model.proofs.translation.Renaming.{pivots-count, edges-count}
 use Rattle.model.proofs.cuts.CutEdges.{edges-say}
 use Rattle.contracts.specs.Refuses.{Refuses}
 use Rattle.contracts.specs.Translation.{TranslatePivotsFrom, TranslateEdgesFrom}
-use Rattle.contracts.proofs.Places.{all-places, places-all}
 use Rattle.contracts.proofs.Refusing.{this-refused, next-refused, after-refused, Refused, call-refuses, more-refused, count-refused, wrong-refused, pivots-refused, table-count-refused, table-pivots-refused, edges-refused}
 use Rattle.contracts.proofs.LongRefused.{new-pivots-refused}
 use Rattle.contracts.proofs.Lent.{accepted, go-on, element-lent, pivots-read, pivots-lent, edges-read, table-lent}
@@ -43,11 +42,11 @@ module _ (pt : PivotTable) (p : Key) where
 
   begun-at : all (begun p) (butLast pt) ≡ true → (i : ℕ) → i < NumBuckets pt → IsPrefix p (GetKey pt i) ≡ true
   unfolding GetKey
-  begun-at h i l = rw (getD-take (NumBuckets pt) pt i max l) at (all-places (begun p) max (butLast pt) h i (omega (arith, before)))
+  begun-at h i l = rw (getD-take (NumBuckets pt) pt i max l) at (all-inside (begun p) (butLast pt) i max (omega (arith, before)) h)
 
   begun-all : ((i : ℕ) → i < NumBuckets pt → IsPrefix p (GetKey pt i) ≡ true) → all (begun p) (butLast pt) ≡ true
   unfolding GetKey
-  begun-all f = places-all (begun p) max (butLast pt) (λ i l. let m : i < NumBuckets pt = omega (arith, before) in rw (getD-take (NumBuckets pt) pt i max m) (f i m))
+  begun-all f = inside-all (begun p) (butLast pt) max (λ i l. let m : i < NumBuckets pt = omega (arith, before) in rw (getD-take (NumBuckets pt) pt i max m) (f i m))
 
 -- lent any bytes
 module _ (v : List ℕ) (p q : Key) (n d : List ℕ) where

@@ -1,6 +1,6 @@
 -- A cut by its bytes: what stands in the cut slot, which of the records lent are kept, and how many are written.
 use mathlib.Core.Path.{_≡_, refl, _∙_}
-use mathlib.Core.Bool.{Bool, true, false, cond, and-true, true≢false, false≢true}
+use mathlib.Core.Bool.{Bool, true, false, and-true, true≢false}
 use mathlib.Core.List.{List, [], _∷_, _++_, map, append-nil}
 use mathlib.Core.Option.{none}
 use Prim.Native.Nat.{ℕ, _+_, _*_, _/_, _≤_, _<_}
@@ -8,13 +8,12 @@ use native.Mathlib.Omega.{arith}
 use borrow.Author.Tests.{leb-true, not-false}
 use mir.Syntax.{w64}
 use mir.Val.{Fits}
-use lib.Dec.{eqb}
 use lib.ListN.{length, take, drop, length-append, length-drop}
 use lib.Seq.{length-take-le}
 use Rattle.model.specs.declared.Refusal.the-variants.{OutOfRange}
 use Rattle.model.specs.keys.Key.{Key, Bytes, maxLen, IsPrefix, tooLong}
-use Rattle.model.specs.keys.Order.{key, max, isKey}
-use Rattle.model.specs.records.Record.{noEdge, recordSize, maxMark, lengthField, keyBytes, element, edgeOf, recordOf, encode, encodeEdge, joined}
+use Rattle.model.specs.keys.Order.{key}
+use Rattle.model.specs.records.Record.{noEdge, recordSize, keyBytes, element, edgeOf, recordOf, encode, encodeEdge, joined}
 use Rattle.model.specs.records.Record.{elements, edges, encodeAll, encodeEdges}
 use Rattle.model.specs.inner.Places.{recordAt}
 use Rattle.model.specs.ranges.RangePrefix.{PivotLcp}
@@ -35,6 +34,7 @@ use Rattle.model.proofs.tables.Routing.{wf-keys, wf-short, wf-all-short
 use Rattle.model.proofs.calls.TableCalls.{length-elements, length-edges, element-at, edge-at}
 use Rattle.model.proofs.calls.TableCalls.{table-wf, table-most, table-whole, table-count, table-edges-whole, table-edges-short, wrong-key}
 use Rattle.model.proofs.calls.TableCalls.{table-bytes, table-encode, table-encode-edges}
+use Rattle.model.proofs.calls.PivotKeys.{key-element}
 use Rattle.model.proofs.cuts.Between.{BytesT, bytes-at}
 use Rattle.model.proofs.tables.Slots.{Table, wf-says, Inside}
 use Rattle.model.proofs.cuts.Cuts.{left-slot, right-slot}
@@ -113,15 +113,6 @@ side-begins true k t v e c = absurd (true≢false e)
 side-begins false {pt} k t v e c =
     let w = right-slot t k v in
     begins (pivotAt pt (cutoff false pt k)) (pivotAt pt (cutoff false pt k + 1)) k c (w .from) (w .rises)
-
--- a record that stands for a key stands for its key bytes
-key-element : (r : List ℕ) → isKey (element r) ≡ true → element r ≡ key (keyBytes r)
-unfolding element
-key-element r = go (eqb (lengthField r) maxMark)
-  where
-    go : (t : Bool) → isKey (cond t max (key (keyBytes r))) ≡ true → cond t max (key (keyBytes r)) ≡ key (keyBytes r)
-    go true h = absurd (false≢true h)
-    go false h = refl
 
 -- ---- a cut that has none of the causes 1 to 5
 

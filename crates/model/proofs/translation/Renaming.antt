@@ -166,7 +166,8 @@ module _ (et : EdgeTable) (pt : PivotTable) (n : length et + 1 ≡ length pt) wh
       go (x ∷ pt) n = unfold TranslateEdges in length-from x pt et (omega arith)
 
   module _ (i : ℕ) (h : i < length et) where
-    edges-at : edgeAt (TranslateEdges et pt) i ≡ filled (PivotLcp (pivotAt pt i) (pivotAt pt (i + 1))) (edgeAt et i)
+    -- each is filled at its slot
+    pub edges-at : edgeAt (TranslateEdges et pt) i ≡ filled (PivotLcp (pivotAt pt i) (pivotAt pt (i + 1))) (edgeAt et i)
     edges-at = rw add-one (go pt n)
       where
         go : (pt : PivotTable) → length et + 1 ≡ length pt → edgeAt (TranslateEdges et pt) i ≡ filled (PivotLcp (pivotAt pt i) (pivotAt pt (suc i))) (edgeAt et i)
