@@ -2,17 +2,19 @@
 use mathlib.Core.Path.{_≡_, _∙_}
 use mathlib.Core.Bool.{Bool, true, false}
 use mathlib.Core.List.{List}
-use Prim.Native.Nat.{ℕ, _*_, _≤_, _<_}
+use Prim.Native.Nat.{ℕ, _+_, _*_, _≤_, _<_}
 use lib.ListN.{length}
 use Rattle.model.specs.declared.Answer.the-variants as answers
 use Rattle.model.specs.keys.Key.{Key, maxLen, tooLong}
-use Rattle.model.specs.records.Record.{recordSize, elements, encodeAll, encodeEdges}
-use Rattle.model.specs.tables.Tables.{PivotTable, EdgeTable, maxPivots, all, shortEdge, WFPivots, WFEdges, BoundedKey, ValidLeftCutOffKey}
+use Rattle.model.specs.records.Record.{noEdge, recordSize, elements, encodeAll, encodeEdges}
+use Rattle.model.specs.tables.Tables.{PivotTable, EdgeTable, edgeAt, maxPivots, all, shortEdge, WFPivots, WFEdges, BoundedKey, ValidLeftCutOffKey}
 use Rattle.model.specs.cuts.Cuts.{SplitLeft, SplitRight, SplitLeftEdges, SplitRightEdges}
 use Rattle.model.specs.cuts.Sides.{inside, Split, SplitEdges}
 use Rattle.model.specs.calls.Refusals.{over}
 use Rattle.model.specs.calls.TableCalls.{tableCauses, edgeSlotCauses}
 use Rattle.model.specs.calls.CutCalls.{cutCauses, cutAnswer, cutLeavesPivots}
+use Rattle.model.proofs.Lists.{inside-all}
+use Rattle.model.proofs.cuts.SplitEdges.{no-edges-fit, no-edges-short}
 use Rattle.model.proofs.cuts.Cuts.{split-left-wf, split-right-wf}
 use Rattle.contracts.specs.Refuses.{Refuses}
 use Rattle.contracts.proofs.Refusing.{more-refused, call-refuses, table-count-refused, table-pivots-refused, edge-slot-refused}
@@ -46,6 +48,15 @@ module _ (pt : PivotTable) (et : EdgeTable) (k : Key) (w : WFPivots pt ≡ true)
         accepted _ _ (cutCauses left (encodeAll pt) (encodeEdges et) k dp de) c ∙ rw b,
       )
 
+-- the same without edges: "no edge" in each slot
+module _ (pt : PivotTable) (et : EdgeTable) (k : Key) (w : WFPivots pt ≡ true) (m : length pt ≤ maxPivots) (n : length et + 1 ≡ length pt) (g : (i : ℕ) → edgeAt et i ≡ noEdge)
+    (l : length k ≤ maxLen) (left : Bool) (i : inside left pt k ≡ true) (dp de : List ℕ)
+    (r : length (Split left pt k) * recordSize ≤ length dp) (t : length (SplitEdges left et pt k) * recordSize ≤ length de) where
+  alone-written : (cutAnswer left (encodeAll pt) (encodeEdges et) k dp de ≡ answers.Value (length (Split left pt k)))
+      × (cutLeavesPivots left (encodeAll pt) (encodeEdges et) k dp de ≡ over (encodeAll (Split left pt k)) dp)
+  alone-written =
+      cut-written pt et k w m (no-edges-fit pt et n g) (inside-all shortEdge et noEdge (λ j _. rw (g j))) l left i (no-edges-short left pt et k g) dp de r t
+
 -- ---- the left cut
 
 -- ensures WFPivots(ret)
@@ -66,13 +77,22 @@ module _ (p e : List ℕ) (k : Key) (dp de : List ℕ) where
   bounded-pivots-328 = cut-key true p e k dp de
 
 -- ensures ret == SplitLeft(pt, pivot)
--- with edges whose cut has none past 64 bytes; a table without edges is one
-pub bounded-pivots-330 : (pt : PivotTable) (et : EdgeTable) (k : Key) (dp de : List ℕ) → WFPivots pt ≡ true → length pt ≤ maxPivots → WFEdges et pt ≡ true
-    → all shortEdge et ≡ true → length k ≤ maxLen → ValidLeftCutOffKey pt k ≡ true → all shortEdge (SplitLeftEdges et pt k) ≡ true
+-- of pivots alone: with "no edge" in each slot
+pub bounded-pivots-330 : (pt : PivotTable) (et : EdgeTable) (k : Key) (dp de : List ℕ) → WFPivots pt ≡ true → length pt ≤ maxPivots
+    → length et + 1 ≡ length pt → ((i : ℕ) → edgeAt et i ≡ noEdge) → length k ≤ maxLen → ValidLeftCutOffKey pt k ≡ true
     → length (SplitLeft pt k) * recordSize ≤ length dp → length (SplitLeftEdges et pt k) * recordSize ≤ length de
     → (cutAnswer true (encodeAll pt) (encodeEdges et) k dp de ≡ answers.Value (length (SplitLeft pt k)))
     × (cutLeavesPivots true (encodeAll pt) (encodeEdges et) k dp de ≡ over (encodeAll (SplitLeft pt k)) dp)
-bounded-pivots-330 pt et k dp de w m x s l i f r t = cut-written pt et k w m x s l true i f dp de r t
+bounded-pivots-330 pt et k dp de w m n g l i r t = alone-written pt et k w m n g l true i dp de r t
+
+-- ensures ret == SplitLeft(pt, pivot)
+-- with edges, where those of the cut have at most 64 bytes
+pub bounded-pivots-330b : (pt : PivotTable) (et : EdgeTable) (k : Key) (dp de : List ℕ) → WFPivots pt ≡ true → length pt ≤ maxPivots
+    → WFEdges et pt ≡ true → all shortEdge et ≡ true → length k ≤ maxLen → ValidLeftCutOffKey pt k ≡ true → all shortEdge (SplitLeftEdges et pt k) ≡ true
+    → length (SplitLeft pt k) * recordSize ≤ length dp → length (SplitLeftEdges et pt k) * recordSize ≤ length de
+    → (cutAnswer true (encodeAll pt) (encodeEdges et) k dp de ≡ answers.Value (length (SplitLeft pt k)))
+    × (cutLeavesPivots true (encodeAll pt) (encodeEdges et) k dp de ≡ over (encodeAll (SplitLeft pt k)) dp)
+bounded-pivots-330b pt et k dp de w m x s l i f r t = cut-written pt et k w m x s l true i f dp de r t
 
 -- ---- the right cut
 
@@ -94,10 +114,19 @@ module _ (p e : List ℕ) (k : Key) (dp de : List ℕ) where
   bounded-pivots-370 = cut-key false p e k dp de
 
 -- ensures ret == SplitRight(pt, pivot)
--- with edges whose cut has none past 64 bytes; a table without edges is one
-pub bounded-pivots-372 : (pt : PivotTable) (et : EdgeTable) (k : Key) (dp de : List ℕ) → WFPivots pt ≡ true → length pt ≤ maxPivots → WFEdges et pt ≡ true
-    → all shortEdge et ≡ true → length k ≤ maxLen → BoundedKey pt k ≡ true → all shortEdge (SplitRightEdges et pt k) ≡ true
+-- of pivots alone: with "no edge" in each slot
+pub bounded-pivots-372 : (pt : PivotTable) (et : EdgeTable) (k : Key) (dp de : List ℕ) → WFPivots pt ≡ true → length pt ≤ maxPivots
+    → length et + 1 ≡ length pt → ((i : ℕ) → edgeAt et i ≡ noEdge) → length k ≤ maxLen → BoundedKey pt k ≡ true
     → length (SplitRight pt k) * recordSize ≤ length dp → length (SplitRightEdges et pt k) * recordSize ≤ length de
     → (cutAnswer false (encodeAll pt) (encodeEdges et) k dp de ≡ answers.Value (length (SplitRight pt k)))
     × (cutLeavesPivots false (encodeAll pt) (encodeEdges et) k dp de ≡ over (encodeAll (SplitRight pt k)) dp)
-bounded-pivots-372 pt et k dp de w m x s l i f r t = cut-written pt et k w m x s l false i f dp de r t
+bounded-pivots-372 pt et k dp de w m n g l i r t = alone-written pt et k w m n g l false i dp de r t
+
+-- ensures ret == SplitRight(pt, pivot)
+-- with edges, where those of the cut have at most 64 bytes
+pub bounded-pivots-372b : (pt : PivotTable) (et : EdgeTable) (k : Key) (dp de : List ℕ) → WFPivots pt ≡ true → length pt ≤ maxPivots
+    → WFEdges et pt ≡ true → all shortEdge et ≡ true → length k ≤ maxLen → BoundedKey pt k ≡ true → all shortEdge (SplitRightEdges et pt k) ≡ true
+    → length (SplitRight pt k) * recordSize ≤ length dp → length (SplitRightEdges et pt k) * recordSize ≤ length de
+    → (cutAnswer false (encodeAll pt) (encodeEdges et) k dp de ≡ answers.Value (length (SplitRight pt k)))
+    × (cutLeavesPivots false (encodeAll pt) (encodeEdges et) k dp de ≡ over (encodeAll (SplitRight pt k)) dp)
+bounded-pivots-372b pt et k dp de w m x s l i f r t = cut-written pt et k w m x s l false i f dp de r t
