@@ -1,4 +1,3 @@
-pub mod Shared
 pub mod Cuts
 pub mod Ranges
 pub mod Translation

@@ -1,9 +1,10 @@
 -- BoundedPivotsLib, lines 315 to 330 and 357 to 372: the cuts.
-use mathlib.Core.Path.{_≡_, _∙_}
+use mathlib.Core.Path.{_≡_, refl, _∙_}
 use mathlib.Core.Bool.{Bool, true, false}
 use mathlib.Core.List.{List}
 use Prim.Native.Nat.{ℕ, _+_, _*_, _≤_, _<_}
 use lib.ListN.{length}
+use Rattle.model.specs.declared.Refusal.the-variants.{Shape, OutOfRange}
 use Rattle.model.specs.declared.Answer.the-variants as answers
 use Rattle.model.specs.keys.Key.{Key, maxLen, tooLong}
 use Rattle.model.specs.records.Record.{noEdge, recordSize, elements, encodeAll, encodeEdges}
@@ -11,29 +12,31 @@ use Rattle.model.specs.tables.Tables.{PivotTable, EdgeTable, edgeAt, maxPivots,
 use Rattle.model.specs.cuts.Cuts.{SplitLeft, SplitRight, SplitLeftEdges, SplitRightEdges}
 use Rattle.model.specs.cuts.Sides.{inside, Split, SplitEdges}
 use Rattle.model.specs.calls.Refusals.{over}
-use Rattle.model.specs.calls.TableCalls.{tableCauses, edgeSlotCauses}
+use Rattle.model.specs.calls.TableCalls.{notEdgeCount, pivotCauses, tableCauses, edgeSlotCauses}
 use Rattle.model.specs.calls.CutCalls.{cutCauses, cutAnswer, cutLeavesPivots}
 use Rattle.model.proofs.Lists.{inside-all}
+use Rattle.model.proofs.calls.Refusals.{or-right, not-fails}
 use Rattle.model.proofs.cuts.SplitEdges.{no-edges-fit, no-edges-short}
 use Rattle.model.proofs.cuts.Cuts.{split-left-wf, split-right-wf}
-use Rattle.contracts.specs.Refuses.{Refuses}
-use Rattle.contracts.proofs.Refusing.{more-refused, call-refuses, table-count-refused, table-pivots-refused, edge-slot-refused}
+use Rattle.contracts.specs.Refuses.{RefusesAt, Refuses}
+use Rattle.contracts.proofs.Refusing.{refuses-at, too-many, more-refused, call-refuses, table-pivots-refused}
 use Rattle.contracts.proofs.Lent.{accepted, pivots-read}
 use Rattle.contracts.proofs.CutsLent.{cut-lent}
 
 -- ---- either cut, of the pivots p and the edges e at the key k
 
 module _ (left : Bool) (p e : List ℕ) (k : Key) (dp de : List ℕ) where
-  cut-count : maxPivots < length (elements p) → Refuses answers.Refused 1 (cutAnswer left p e k dp de)
-  cut-count h =
-      call-refuses _ _ 1 _ (more-refused 1 (edgeSlotCauses p e k (inside left (elements p) k)) _ (more-refused 1 (tableCauses false (tooLong k) p e) _ (table-count-refused _ _ p e h)))
+  cut-count : maxPivots < length (elements p) → RefusesAt answers.Refused (cutCauses left p e k dp de) 0 Shape (cutAnswer left p e k dp de)
+  unfolding tableCauses pivotCauses
+  cut-count h = refuses-at _ _ (cutCauses left p e k dp de) 0 _ _ _ refl (or-right (notEdgeCount p e) _ (too-many p h))
 
   cut-pivots : WFPivots (elements p) ≡ false → Refuses answers.Refused 3 (cutAnswer left p e k dp de)
   cut-pivots h =
       call-refuses _ _ 3 _ (more-refused 3 (edgeSlotCauses p e k (inside left (elements p) k)) _ (more-refused 3 (tableCauses false (tooLong k) p e) _ (table-pivots-refused _ _ p e h)))
 
-  cut-key : inside left (elements p) k ≡ false → Refuses answers.Refused 5 (cutAnswer left p e k dp de)
-  cut-key h = call-refuses _ _ 5 _ (more-refused 5 (edgeSlotCauses p e k (inside left (elements p) k)) _ (edge-slot-refused p e k _ h))
+  cut-key : inside left (elements p) k ≡ false → RefusesAt answers.Refused (cutCauses left p e k dp de) 4 OutOfRange (cutAnswer left p e k dp de)
+  unfolding tableCauses pivotCauses
+  cut-key h = refuses-at _ _ (cutCauses left p e k dp de) 4 _ _ _ refl (not-fails _ h)
 
 -- lent the records of a table with edges et and destinations that hold what is cut
 module _ (pt : PivotTable) (et : EdgeTable) (k : Key) (w : WFPivots pt ≡ true) (m : length pt ≤ maxPivots) (x : WFEdges et pt ≡ true) (s : all shortEdge et ≡ true)
@@ -65,7 +68,7 @@ bounded-pivots-318 pt k w v l = split-left-wf pt k w v l
 
 module _ (p e : List ℕ) (k : Key) (dp de : List ℕ) where
   -- requires |pt| < 0x4000_0000_0000_0000
-  pub bounded-pivots-326 : maxPivots < length (elements p) → Refuses answers.Refused 1 (cutAnswer true p e k dp de)
+  pub bounded-pivots-326 : maxPivots < length (elements p) → RefusesAt answers.Refused (cutCauses true p e k dp de) 0 Shape (cutAnswer true p e k dp de)
   bounded-pivots-326 = cut-count true p e k dp de
 
   -- requires WFPivots(pt)
@@ -73,7 +76,7 @@ module _ (p e : List ℕ) (k : Key) (dp de : List ℕ) where
   bounded-pivots-327 = cut-pivots true p e k dp de
 
   -- requires ValidLeftCutOffKey(pt, pivot)
-  pub bounded-pivots-328 : ValidLeftCutOffKey (elements p) k ≡ false → Refuses answers.Refused 5 (cutAnswer true p e k dp de)
+  pub bounded-pivots-328 : ValidLeftCutOffKey (elements p) k ≡ false → RefusesAt answers.Refused (cutCauses true p e k dp de) 4 OutOfRange (cutAnswer true p e k dp de)
   bounded-pivots-328 = cut-key true p e k dp de
 
 -- ensures ret == SplitLeft(pt, pivot)
@@ -102,7 +105,7 @@ bounded-pivots-360 pt k w b l = split-right-wf pt k w b l
 
 module _ (p e : List ℕ) (k : Key) (dp de : List ℕ) where
   -- requires |pt| < 0x4000_0000_0000_0000
-  pub bounded-pivots-368 : maxPivots < length (elements p) → Refuses answers.Refused 1 (cutAnswer false p e k dp de)
+  pub bounded-pivots-368 : maxPivots < length (elements p) → RefusesAt answers.Refused (cutCauses false p e k dp de) 0 Shape (cutAnswer false p e k dp de)
   bounded-pivots-368 = cut-count false p e k dp de
 
   -- requires WFPivots(pt)
@@ -110,7 +113,7 @@ module _ (p e : List ℕ) (k : Key) (dp de : List ℕ) where
   bounded-pivots-369 = cut-pivots false p e k dp de
 
   -- requires BoundedKey(pt, pivot)
-  pub bounded-pivots-370 : BoundedKey (elements p) k ≡ false → Refuses answers.Refused 5 (cutAnswer false p e k dp de)
+  pub bounded-pivots-370 : BoundedKey (elements p) k ≡ false → RefusesAt answers.Refused (cutCauses false p e k dp de) 4 OutOfRange (cutAnswer false p e k dp de)
   bounded-pivots-370 = cut-key false p e k dp de
 
 -- ensures ret == SplitRight(pt, pivot)

@@ -1,13 +1,13 @@
 -- BoundedPivotsLib, lines 159 and 200 to 224: PivotSize, the first table, and the key at a place.
 use mathlib.Core.Path.{_≡_, refl, sym, _∙_}
-use mathlib.Core.Bool.{true, false}
+use mathlib.Core.Bool.{true, false, and-false}
 use mathlib.Core.List.{List, []}
 use mathlib.Core.Option.{none}
 use Prim.Native.Nat.{ℕ, _*_, _≤_, _<_}
 use borrow.Author.Tests.{le-ltb, lt-ltb, le-leb, eq-eqb, not-false}
 use lib.Dec.{ltb}
 use lib.ListN.{length}
-use Rattle.model.specs.declared.Refusal.the-variants.{NoSuchSlot}
+use Rattle.model.specs.declared.Refusal.the-variants.{Shape, NoSuchSlot}
 use Rattle.model.specs.declared.Answer.the-variants as answers
 use Rattle.model.specs.keys.Key.{Key, maxLen}
 use Rattle.model.specs.keys.Order.{key, max, isKey}
@@ -20,9 +20,9 @@ use Rattle.model.proofs.keys.Key.{both}
 use Rattle.model.proofs.records.Record.{length-encode, reading-key, bytes-record}
 use Rattle.model.proofs.tables.Routing.{init-wf, get-key}
 use Rattle.model.proofs.calls.Refusals.{none-here, none-after}
-use Rattle.contracts.specs.Refuses.{Refuses}
+use Rattle.contracts.specs.Refuses.{RefusesAt, Refuses}
 use Rattle.contracts.specs.BoundedPivots.{PivotSize}
-use Rattle.contracts.proofs.Refusing.{clause-refused, more-refused, call-refuses, count-refused, pivots-refused}
+use Rattle.contracts.proofs.Refusing.{refuses-at, too-many, more-refused, call-refuses, pivots-refused}
 use Rattle.contracts.proofs.Lent.{accepted, go-on, pivots-read, pivots-lent}
 
 -- function method PivotSize(e: Element) : (n: uint64)
@@ -51,8 +51,9 @@ bounded-pivots-212 pt i h = sym (get-key pt i h)
 
 module _ (p : List ℕ) (i : ℕ) where
   -- requires |pt| < 0x4000_0000_0000_0000
-  pub bounded-pivots-219 : maxPivots < length (elements p) → Refuses answers.Refused 1 (getKeyAnswer p i)
-  bounded-pivots-219 h = call-refuses _ _ 1 _ (more-refused 1 (pivotCauses false false p) _ (count-refused _ _ p h))
+  pub bounded-pivots-219 : maxPivots < length (elements p) → RefusesAt answers.Refused (getKeyCauses p i) 0 Shape (getKeyAnswer p i)
+  unfolding pivotCauses
+  bounded-pivots-219 h = refuses-at _ _ (getKeyCauses p i) 0 _ _ _ refl (too-many p h)
 
   -- requires WFPivots(pt)
   pub bounded-pivots-220 : WFPivots (elements p) ≡ false → Refuses answers.Refused 3 (getKeyAnswer p i)
@@ -63,14 +64,14 @@ module _ (p : List ℕ) (i : ℕ) where
   there h = both _ _ (not-false _ (none-here _ NoSuchSlot [] (none-after (pivotCauses false false p) _ h)))
 
   -- requires 0 <= idx as int < |pt|
-  pub bounded-pivots-221 : ltb i (length (elements p)) ≡ false → Refuses answers.Refused 6 (getKeyAnswer p i)
+  pub bounded-pivots-221 : ltb i (length (elements p)) ≡ false → RefusesAt answers.Refused (getKeyCauses p i) 3 NoSuchSlot (getKeyAnswer p i)
   unfolding pivotCauses
-  bounded-pivots-221 h = call-refuses _ _ 6 _ (clause-refused 6 (getKeyCauses p i) (ltb i (length (elements p))) refl (λ e. there e .0) h)
+  bounded-pivots-221 h = refuses-at _ _ (getKeyCauses p i) 3 _ _ _ refl (rw h)
 
   -- requires pt[idx].Element?
-  pub bounded-pivots-222 : isKey (pivotAt (elements p) i) ≡ false → Refuses answers.Refused 6 (getKeyAnswer p i)
+  pub bounded-pivots-222 : isKey (pivotAt (elements p) i) ≡ false → RefusesAt answers.Refused (getKeyCauses p i) 3 NoSuchSlot (getKeyAnswer p i)
   unfolding pivotCauses
-  bounded-pivots-222 h = call-refuses _ _ 6 _ (clause-refused 6 (getKeyCauses p i) (isKey (pivotAt (elements p) i)) refl (λ e. there e .1) h)
+  bounded-pivots-222 h = refuses-at _ _ (getKeyCauses p i) 3 _ _ _ refl (rw (h, and-false))
 
 -- lent the records of a table
 module _ (pt : PivotTable) (i : ℕ) (w : WFPivots pt ≡ true) (m : length pt ≤ maxPivots) (l : i < length pt) (h : isKey (pivotAt pt i) ≡ true) where

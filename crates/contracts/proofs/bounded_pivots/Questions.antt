@@ -7,6 +7,7 @@ use Prim.Native.Nat.{ℕ, _-_, _≤_, _<_}
 use native.Mathlib.Omega.{arith}
 use borrow.Author.Tests.{lt-ltb}
 use lib.ListN.{length, getD, length-map}
+use Rattle.model.specs.declared.Refusal.the-variants.{Shape, Malformed, NotBelow}
 use Rattle.model.specs.declared.Decided.the-variants as decided
 use Rattle.model.specs.keys.Key.{Key, maxLen, tooLong}
 use Rattle.model.specs.keys.Order.{Element, key, max, lte, lt}
@@ -20,12 +21,12 @@ use Rattle.model.proofs.Lists.{all-inside, inside-all, getD-map}
 use Rattle.model.proofs.keys.Key.{both}
 use Rattle.model.proofs.keys.Order.{lte-trans, lte-trans-lt}
 use Rattle.model.proofs.tables.Places.{sorted-lte}
-use Rattle.model.proofs.calls.Refusals.{not-fails}
+use Rattle.model.proofs.calls.Refusals.{or-left, or-right, not-fails}
 use Rattle.model.proofs.calls.TableCalls.{not-too-long}
-use Rattle.contracts.specs.Refuses.{Refuses}
+use Rattle.contracts.specs.Refuses.{RefusesAt, Refuses}
 use Rattle.contracts.specs.BoundedPivots.{ElementIsKey, KeysToElements, BoundedKeySeq, BoundedSortedKeySeq}
 use Rattle.contracts.proofs.Tests.{same-tests}
-use Rattle.contracts.proofs.Refusing.{this-refused, after-refused, more-refused, call-refuses, not-key-long, wrong-refused, count-refused, pivots-refused}
+use Rattle.contracts.proofs.Refusing.{refuses-at, not-key-long, too-many, more-refused, call-refuses, pivots-refused}
 use Rattle.contracts.proofs.Lent.{accepted, go-on, element-lent, pivots-read, pivots-lent}
 
 -- ---- ContainsRange, of the pivots p, the left key l and the right record r
@@ -36,20 +37,19 @@ module _ (p : List ℕ) (l : Key) (r : List ℕ) where
   bounded-pivots-89 h = call-refuses _ _ 3 _ (more-refused 3 (pivotCauses (notRecord r) (tooLong l || notElement r) p) _ (pivots-refused _ _ p h))
 
   -- requires |pt| < 0x4000_0000_0000_0000
-  pub bounded-pivots-90 : maxPivots < length (elements p) → Refuses decided.Refused 1 (containsRangeAnswer p l r)
-  bounded-pivots-90 h = call-refuses _ _ 1 _ (more-refused 1 (pivotCauses (notRecord r) (tooLong l || notElement r) p) _ (count-refused _ _ p h))
+  pub bounded-pivots-90 : maxPivots < length (elements p) → RefusesAt decided.Refused (containsRangeCauses p l r) 0 Shape (containsRangeAnswer p l r)
+  unfolding pivotCauses
+  bounded-pivots-90 h = refuses-at _ _ (containsRangeCauses p l r) 0 _ _ _ refl (or-right (notRecord r) _ (too-many p h))
 
   -- requires ElementIsKey(left)
-  pub bounded-pivots-91 : ElementIsKey (key l) ≡ false → Refuses decided.Refused 2 (containsRangeAnswer p l r)
-  bounded-pivots-91 h =
-      call-refuses _ _ 2 _ (more-refused 2 (pivotCauses (notRecord r) (tooLong l || notElement r) p) _ (wrong-refused _ _ p (rw (not-key-long l h))))
+  pub bounded-pivots-91 : ElementIsKey (key l) ≡ false → RefusesAt decided.Refused (containsRangeCauses p l r) 1 Malformed (containsRangeAnswer p l r)
+  unfolding pivotCauses
+  bounded-pivots-91 h = refuses-at _ _ (containsRangeCauses p l r) 1 _ _ _ refl (or-left (tooLong l || notElement r) _ (or-left (tooLong l) _ (not-key-long l h)))
 
   -- requires Keyspace.lt(left, right)
-  pub bounded-pivots-92 : lt (key l) (element r) ≡ false → Refuses decided.Refused 9 (containsRangeAnswer p l r)
+  pub bounded-pivots-92 : lt (key l) (element r) ≡ false → RefusesAt decided.Refused (containsRangeCauses p l r) 3 NotBelow (containsRangeAnswer p l r)
   unfolding pivotCauses
-  bounded-pivots-92 h =
-      call-refuses _ _ 9 (containsRangeCauses p l r)
-      (after-refused 9 (pivotCauses (notRecord r) (tooLong l || notElement r) p) _ refl (this-refused 9 _ _ [] refl (not-fails _ h)))
+  bounded-pivots-92 h = refuses-at _ _ (containsRangeCauses p l r) 3 _ _ _ refl (not-fails _ h)
 
 -- ensures b == ContainsRange(pt, left, right)
 pub bounded-pivots-93 : (pt : PivotTable) (l : Key) (r : Element) → WFPivots pt ≡ true → length pt ≤ maxPivots → length l ≤ maxLen → shortElement r ≡ true
@@ -102,16 +102,18 @@ bounded-pivots-114 pt (k ∷ ks) s =
 
 module _ (p : List ℕ) (k : Key) where
   -- requires |pt| < 0x4000_0000_0000_0000
-  pub bounded-pivots-132 : maxPivots < length (elements p) → Refuses decided.Refused 1 (boundedKeyAnswer p k)
-  bounded-pivots-132 h = call-refuses _ _ 1 _ (count-refused _ _ p h)
+  pub bounded-pivots-132 : maxPivots < length (elements p) → RefusesAt decided.Refused (keyCauses p k) 0 Shape (boundedKeyAnswer p k)
+  unfolding pivotCauses
+  bounded-pivots-132 h = refuses-at _ _ (keyCauses p k) 0 _ _ _ refl (too-many p h)
 
   -- requires WFPivots(pt)
   pub bounded-pivots-133 : WFPivots (elements p) ≡ false → Refuses decided.Refused 3 (boundedKeyAnswer p k)
   bounded-pivots-133 h = call-refuses _ _ 3 _ (pivots-refused _ _ p h)
 
   -- requires |pt| < 0x4000_0000_0000_0000
-  pub bounded-pivots-143 : maxPivots < length (elements p) → Refuses decided.Refused 1 (validLeftCutOffKeyAnswer p k)
-  bounded-pivots-143 h = call-refuses _ _ 1 _ (count-refused _ _ p h)
+  pub bounded-pivots-143 : maxPivots < length (elements p) → RefusesAt decided.Refused (keyCauses p k) 0 Shape (validLeftCutOffKeyAnswer p k)
+  unfolding pivotCauses
+  bounded-pivots-143 h = refuses-at _ _ (keyCauses p k) 0 _ _ _ refl (too-many p h)
 
   -- requires WFPivots(pt)
   pub bounded-pivots-144 : WFPivots (elements p) ≡ false → Refuses decided.Refused 3 (validLeftCutOffKeyAnswer p k)
@@ -122,8 +124,9 @@ module _ (p : List ℕ) (k : Key) where
   bounded-pivots-248 i h = call-refuses _ _ 3 _ (pivots-refused _ _ p h)
 
   -- requires |pt| < 0x4000_0000_0000_0000
-  pub bounded-pivots-249 : (i : ℕ) → maxPivots < length (elements p) → Refuses decided.Refused 1 (pivotInsertableAnswer p i k)
-  bounded-pivots-249 i h = call-refuses _ _ 1 _ (count-refused _ _ p h)
+  pub bounded-pivots-249 : (i : ℕ) → maxPivots < length (elements p) → RefusesAt decided.Refused (keyCauses p k) 0 Shape (pivotInsertableAnswer p i k)
+  unfolding pivotCauses
+  bounded-pivots-249 i h = refuses-at _ _ (keyCauses p k) 0 _ _ _ refl (too-many p h)
 
 -- lent the records of a table, and a key
 module _ (pt : PivotTable) (k : Key) (w : WFPivots pt ≡ true) (m : length pt ≤ maxPivots) (s : length k ≤ maxLen) where

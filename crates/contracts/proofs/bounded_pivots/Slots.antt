@@ -1,5 +1,5 @@
 -- BoundedPivotsLib, lines 177 to 197, 229 to 234, 294 to 308, 336 to 350 and 378: the slot of a key, and the cut-offs.
-use mathlib.Core.Path.{_≡_, sym}
+use mathlib.Core.Path.{_≡_, refl, sym}
 use mathlib.Core.Bool.{true, false, _&&_}
 use mathlib.Core.List.{List}
 use Prim.Native.Nat.{ℕ, _+_, _-_, _≤_, _<_}
@@ -7,21 +7,23 @@ use native.Mathlib.Omega.{arith}
 use borrow.Author.Tests.{eqb-true, eq-eqb}
 use lib.Dec.{eqb}
 use lib.ListN.{length}
+use Rattle.model.specs.declared.Refusal.the-variants.{Shape, OutOfRange}
 use Rattle.model.specs.declared.Routed.the-variants as routed
 use Rattle.model.specs.keys.Key.{Key, maxLen}
 use Rattle.model.specs.keys.Order.{key, lte, lt}
 use Rattle.model.specs.ranges.RangePrefix.{InBetween}
 use Rattle.model.specs.records.Record.{elements, encodeAll}
 use Rattle.model.specs.tables.Tables.{PivotTable, NumBuckets, maxPivots, pivotAt, WFPivots, BoundedKey, ValidLeftCutOffKey, GetKey, Route, CutoffForLeft, CutoffForRight}
-use Rattle.model.specs.calls.TableCalls.{keyCauses, slotCauses, routeAnswer, cutoffForLeftAnswer, cutoffForRightAnswer}
+use Rattle.model.specs.calls.TableCalls.{keyCauses, slotCauses, routeAnswer, cutoffForLeftAnswer, cutoffForRightAnswer, pivotCauses}
 use Rattle.model.proofs.keys.Key.{both}
 use Rattle.model.proofs.tables.Places.{sorted-at}
 use Rattle.model.proofs.tables.Routing.{wf-sorted, route-inside, route-lower, route-upper, route-between, slot-bounded, slot-is-route, pivot-bounded, route-of-pivot, cutoff-right-is-route}
 use Rattle.model.proofs.tables.Routing.{cutoff-left-inside, cutoff-left-lower, cutoff-left-upper}
-use Rattle.contracts.specs.Refuses.{Refuses}
+use Rattle.model.proofs.calls.Refusals.{not-fails}
+use Rattle.contracts.specs.Refuses.{RefusesAt, Refuses}
 use Rattle.contracts.specs.BoundedPivots.{PivotTableBucketKeySet}
 use Rattle.contracts.proofs.Tests.{same-tests}
-use Rattle.contracts.proofs.Refusing.{more-refused, call-refuses, count-refused, pivots-refused, slot-refused}
+use Rattle.contracts.proofs.Refusing.{refuses-at, too-many, more-refused, call-refuses, pivots-refused}
 use Rattle.contracts.proofs.Lent.{accepted, pivots-read, slot-lent}
 
 -- ---- Route
@@ -93,40 +95,46 @@ module _ (pt : PivotTable) (k : Key) (w : WFPivots pt ≡ true) (v : ValidLeftCu
 
 module _ (p : List ℕ) (k : Key) where
   -- requires |pt| < 0x4000_0000_0000_0000
-  pub bounded-pivots-188 : maxPivots < length (elements p) → Refuses routed.Refused 1 (routeAnswer p k)
-  bounded-pivots-188 h = call-refuses _ _ 1 _ (more-refused 1 (keyCauses p k) _ (count-refused _ _ p h))
+  pub bounded-pivots-188 : maxPivots < length (elements p) → RefusesAt routed.Refused (slotCauses p k (BoundedKey (elements p) k)) 0 Shape (routeAnswer p k)
+  unfolding pivotCauses
+  bounded-pivots-188 h = refuses-at _ _ (slotCauses p k (BoundedKey (elements p) k)) 0 _ _ _ refl (too-many p h)
 
   -- requires WFPivots(pt)
   pub bounded-pivots-189 : WFPivots (elements p) ≡ false → Refuses routed.Refused 3 (routeAnswer p k)
   bounded-pivots-189 h = call-refuses _ _ 3 _ (more-refused 3 (keyCauses p k) _ (pivots-refused _ _ p h))
 
   -- requires BoundedKey(pt, key)
-  pub bounded-pivots-190 : BoundedKey (elements p) k ≡ false → Refuses routed.Refused 5 (routeAnswer p k)
-  bounded-pivots-190 h = call-refuses _ _ 5 _ (slot-refused p k _ h)
+  pub bounded-pivots-190 : BoundedKey (elements p) k ≡ false → RefusesAt routed.Refused (slotCauses p k (BoundedKey (elements p) k)) 3 OutOfRange (routeAnswer p k)
+  unfolding pivotCauses
+  bounded-pivots-190 h = refuses-at _ _ (slotCauses p k (BoundedKey (elements p) k)) 3 _ _ _ refl (not-fails _ h)
 
   -- requires |pt| < 0x4000_0000_0000_0000
-  pub bounded-pivots-305 : maxPivots < length (elements p) → Refuses routed.Refused 1 (cutoffForLeftAnswer p k)
-  bounded-pivots-305 h = call-refuses _ _ 1 _ (more-refused 1 (keyCauses p k) _ (count-refused _ _ p h))
+  pub bounded-pivots-305 : maxPivots < length (elements p) → RefusesAt routed.Refused (slotCauses p k (ValidLeftCutOffKey (elements p) k)) 0 Shape (cutoffForLeftAnswer p k)
+  unfolding pivotCauses
+  bounded-pivots-305 h = refuses-at _ _ (slotCauses p k (ValidLeftCutOffKey (elements p) k)) 0 _ _ _ refl (too-many p h)
 
   -- requires WFPivots(pt)
   pub bounded-pivots-306 : WFPivots (elements p) ≡ false → Refuses routed.Refused 3 (cutoffForLeftAnswer p k)
   bounded-pivots-306 h = call-refuses _ _ 3 _ (more-refused 3 (keyCauses p k) _ (pivots-refused _ _ p h))
 
   -- requires ValidLeftCutOffKey(pt, pivot)
-  pub bounded-pivots-307 : ValidLeftCutOffKey (elements p) k ≡ false → Refuses routed.Refused 5 (cutoffForLeftAnswer p k)
-  bounded-pivots-307 h = call-refuses _ _ 5 _ (slot-refused p k _ h)
+  pub bounded-pivots-307 : ValidLeftCutOffKey (elements p) k ≡ false → RefusesAt routed.Refused (slotCauses p k (ValidLeftCutOffKey (elements p) k)) 3 OutOfRange (cutoffForLeftAnswer p k)
+  unfolding pivotCauses
+  bounded-pivots-307 h = refuses-at _ _ (slotCauses p k (ValidLeftCutOffKey (elements p) k)) 3 _ _ _ refl (not-fails _ h)
 
   -- requires |pt| < 0x4000_0000_0000_0000
-  pub bounded-pivots-347 : maxPivots < length (elements p) → Refuses routed.Refused 1 (cutoffForRightAnswer p k)
-  bounded-pivots-347 h = call-refuses _ _ 1 _ (more-refused 1 (keyCauses p k) _ (count-refused _ _ p h))
+  pub bounded-pivots-347 : maxPivots < length (elements p) → RefusesAt routed.Refused (slotCauses p k (BoundedKey (elements p) k)) 0 Shape (cutoffForRightAnswer p k)
+  unfolding pivotCauses
+  bounded-pivots-347 h = refuses-at _ _ (slotCauses p k (BoundedKey (elements p) k)) 0 _ _ _ refl (too-many p h)
 
   -- requires WFPivots(pt)
   pub bounded-pivots-348 : WFPivots (elements p) ≡ false → Refuses routed.Refused 3 (cutoffForRightAnswer p k)
   bounded-pivots-348 h = call-refuses _ _ 3 _ (more-refused 3 (keyCauses p k) _ (pivots-refused _ _ p h))
 
   -- requires BoundedKey(pt, pivot)
-  pub bounded-pivots-349 : BoundedKey (elements p) k ≡ false → Refuses routed.Refused 5 (cutoffForRightAnswer p k)
-  bounded-pivots-349 h = call-refuses _ _ 5 _ (slot-refused p k _ h)
+  pub bounded-pivots-349 : BoundedKey (elements p) k ≡ false → RefusesAt routed.Refused (slotCauses p k (BoundedKey (elements p) k)) 3 OutOfRange (cutoffForRightAnswer p k)
+  unfolding pivotCauses
+  bounded-pivots-349 h = refuses-at _ _ (slotCauses p k (BoundedKey (elements p) k)) 3 _ _ _ refl (not-fails _ h)
 
 -- lent the records of a table, and a key
 module _ (pt : PivotTable) (k : Key) (w : WFPivots pt ≡ true) (m : length pt ≤ maxPivots) (s : length k ≤ maxLen) where

@@ -4,6 +4,7 @@ use mathlib.Core.Bool.{true, false, _&&_}
 use mathlib.Core.List.{List, []}
 use Prim.Native.Nat.{ℕ, _-_, _≤_, _<_}
 use lib.ListN.{length, getD, length-map}
+use Rattle.model.specs.declared.Refusal.the-variants.{Shape}
 use Rattle.model.specs.declared.Decided.the-variants as decided
 use Rattle.model.specs.keys.Key.{Key}
 use Rattle.model.specs.keys.Order.{Element, key, max, isKey, lte, same}
@@ -15,9 +16,9 @@ use Rattle.model.proofs.Lists.{getD-map, all-inside, inside-all}
 use Rattle.model.proofs.keys.Key.{both}
 use Rattle.model.proofs.keys.Order.{lte-refl, lte-antisym}
 use Rattle.model.proofs.tables.Routing.{wf-of, wf-sorted, wf-keys, wf-all-short, wf-count}
-use Rattle.contracts.specs.Refuses.{Refuses}
+use Rattle.contracts.specs.Refuses.{RefusesAt, Refuses}
 use Rattle.contracts.specs.BoundedPivots.{ElementIsKey, KeysToElements}
-use Rattle.contracts.proofs.Refusing.{call-refuses, count-refused, pivots-refused}
+use Rattle.contracts.proofs.Refusing.{refuses-at, too-many, call-refuses, pivots-refused}
 use Rattle.contracts.proofs.Lent.{accepted, pivots-read, pivots-lent}
 
 -- predicate ElementIsKey(e: Element)
@@ -86,8 +87,9 @@ pub bounded-pivots-69 : (p : List ℕ) → WFPivots (elements p) ≡ false → R
 bounded-pivots-69 p h = call-refuses _ _ 3 _ (pivots-refused false false p h)
 
 -- requires |pt| < 0x4000_0000_0000_0000
-pub bounded-pivots-70 : (p : List ℕ) → maxPivots < length (elements p) → Refuses decided.Refused 1 (containsAllKeysAnswer p)
-bounded-pivots-70 p h = call-refuses _ _ 1 _ (count-refused false false p h)
+pub bounded-pivots-70 : (p : List ℕ) → maxPivots < length (elements p) → RefusesAt decided.Refused (pivotCauses false false p) 0 Shape (containsAllKeysAnswer p)
+unfolding pivotCauses
+bounded-pivots-70 p h = refuses-at _ _ (pivotCauses false false p) 0 _ _ _ refl (too-many p h)
 
 -- ensures b == ContainsAllKeys(pt)
 pub bounded-pivots-71 : (pt : PivotTable) → WFPivots pt ≡ true → length pt ≤ maxPivots → containsAllKeysAnswer (encodeAll pt) ≡ yesOrNo (ContainsAllKeys pt)

@@ -22,9 +22,10 @@ use Rattle.model.proofs.calls.TableCalls.{not-too-long}
 use Rattle.model.proofs.calls.BucketCalls.{written-bucket, no-refused, eight-no, ten-no, yes-accepted}
 use Rattle.model.proofs.buckets.Entries.{sizedEntry, entries-encodeBucket}
 use Rattle.model.proofs.buckets.Renamed.{simple-most, simple-next}
-use Rattle.contracts.specs.Refuses.{Refuses}
+use Rattle.model.proofs.calls.Refusals.{not-fails}
+use Rattle.contracts.specs.Refuses.{RefusesAt}
 use Rattle.contracts.specs.Translation.{TranslateBucketSimple}
-use Rattle.contracts.proofs.Refusing.{this-refused, next-refused, after-refused, call-refuses}
+use Rattle.contracts.proofs.Refusing.{refuses-at}
 use Rattle.contracts.proofs.Lent.{accepted, go-on}
 
 -- an entry added at the end where a test holds
@@ -65,17 +66,15 @@ module _ (l : List ℕ) (p q : Key) (d : List ℕ) where
 
   -- requires WillFitInPkv(mbucket, prefix, newPrefix);
   -- a kept key would pass 64 bytes
-  pub translation-impl-391 : all shortEntry (TranslateBucket (entries l) p q) ≡ false → Refuses answers.Refused 8 (translateBucketAnswer l p q d)
+  pub translation-impl-391 : all shortEntry (TranslateBucket (entries l) p q) ≡ false → RefusesAt answers.Refused (translateBucketCauses l p q d) 2 TooLong (translateBucketAnswer l p q d)
   unfolding bucketCauses
-  translation-impl-391 h = call-refuses _ _ 8 (translateBucketCauses l p q d) (after-refused 8 (renameCauses l p q) _ refl (this-refused 8 _ _ _ refl (rw h)))
+  translation-impl-391 h = refuses-at _ _ (translateBucketCauses l p q d) 2 _ _ _ refl (not-fails _ h)
 
   -- requires WillFitInPkv(mbucket, prefix, newPrefix);
   -- the destination would not hold the whole bucket
-  pub translation-impl-391b : length d < length (entries l) * entrySize → Refuses answers.Refused 10 (translateBucketAnswer l p q d)
+  pub translation-impl-391b : length d < length (entries l) * entrySize → RefusesAt answers.Refused (translateBucketCauses l p q d) 3 NoRoom (translateBucketAnswer l p q d)
   unfolding bucketCauses neededBytes
-  translation-impl-391b h =
-      call-refuses _ _ 10 (translateBucketCauses l p q d)
-      (after-refused 10 (renameCauses l p q) _ refl (next-refused 10 _ _ _ refl (this-refused 10 _ _ _ refl (lt-ltb (length d) (length (entries l) * entrySize) h))))
+  translation-impl-391b h = refuses-at _ _ (translateBucketCauses l p q d) 3 _ _ _ refl (lt-ltb (length d) (length (entries l) * entrySize) h)
 
 -- neither 8 nor 10
 neither : (a : Bool) (m n : ℕ) → not (not a || ltb n m) ≡ (a && leb m n)

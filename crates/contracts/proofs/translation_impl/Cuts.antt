@@ -4,49 +4,48 @@ use mathlib.Core.Bool.{Bool, true, false}
 use mathlib.Core.List.{List}
 use Prim.Native.Nat.{ℕ, _*_, _≤_}
 use lib.ListN.{length}
+use Rattle.model.specs.declared.Refusal.the-variants.{EmptyPrefix, TooLong}
 use Rattle.model.specs.declared.Answer.the-variants as answers
-use Rattle.model.specs.keys.Key.{Key, maxLen, tooLong}
+use Rattle.model.specs.keys.Key.{Key, maxLen}
 use Rattle.model.specs.records.Record.{recordSize, elements, edges, encodeAll, encodeEdges}
 use Rattle.model.specs.tables.Tables.{PivotTable, EdgeTable, maxPivots, all, shortEdge, WFPivots, WFEdges, BoundedKey, ValidLeftCutOffKey}
 use Rattle.model.specs.cuts.Cuts.{SplitLeft, SplitRight, SplitLeftEdges, SplitRightEdges}
 use Rattle.model.specs.cuts.Sides.{inside, Split, SplitEdges}
 use Rattle.model.specs.calls.Refusals.{over}
-use Rattle.model.specs.calls.TableCalls.{pivotCauses, tableCauses, edgeSlotCauses}
+use Rattle.model.specs.calls.TableCalls.{pivotCauses, tableCauses}
 use Rattle.model.specs.calls.CutCalls.{cutCauses, cutAnswer, cutLeavesEdges}
-use Rattle.contracts.specs.Refuses.{Refuses}
-use Rattle.contracts.proofs.Refusing.{this-refused, after-refused, call-refuses, more-refused, edges-refused}
+use Rattle.model.proofs.calls.Refusals.{not-fails}
+use Rattle.contracts.specs.Refuses.{RefusesAt}
+use Rattle.contracts.proofs.Refusing.{refuses-at}
 use Rattle.contracts.proofs.Lent.{accepted, pivots-read, edges-read}
 use Rattle.contracts.proofs.CutsLent.{cut-lent}
 
 -- lent any bytes
 module _ (p e : List ℕ) (k : Key) (dp de : List ℕ) where
-  edges-stand : (left : Bool) → WFEdges (edges e) (elements p) ≡ false → Refuses answers.Refused 4 (cutAnswer left p e k dp de)
-  edges-stand left h =
-      call-refuses _ _ 4 _
-      (more-refused 4 (edgeSlotCauses p e k (inside left (elements p) k)) _
-      (more-refused 4 (tableCauses false (tooLong k) p e) _ (edges-refused false (tooLong k) p e h)))
+  edges-stand : (left : Bool) → WFEdges (edges e) (elements p) ≡ false → RefusesAt answers.Refused (cutCauses left p e k dp de) 3 EmptyPrefix (cutAnswer left p e k dp de)
+  unfolding tableCauses pivotCauses
+  edges-stand left h = refuses-at _ _ (cutCauses left p e k dp de) 3 _ _ _ refl (not-fails _ h)
 
   -- requires WFEdges(et, pt)
-  pub translation-impl-31 : WFEdges (edges e) (elements p) ≡ false → Refuses answers.Refused 4 (cutAnswer true p e k dp de)
+  pub translation-impl-31 : WFEdges (edges e) (elements p) ≡ false → RefusesAt answers.Refused (cutCauses true p e k dp de) 3 EmptyPrefix (cutAnswer true p e k dp de)
   translation-impl-31 = edges-stand true
 
   -- requires WFEdges(et, pt)
-  pub translation-impl-52 : WFEdges (edges e) (elements p) ≡ false → Refuses answers.Refused 4 (cutAnswer false p e k dp de)
+  pub translation-impl-52 : WFEdges (edges e) (elements p) ≡ false → RefusesAt answers.Refused (cutCauses false p e k dp de) 3 EmptyPrefix (cutAnswer false p e k dp de)
   translation-impl-52 = edges-stand false
 
-  long-edge : (left : Bool) → all shortEdge (SplitEdges left (edges e) (elements p) k) ≡ false → Refuses answers.Refused 8 (cutAnswer left p e k dp de)
+  long-edge : (left : Bool) → all shortEdge (SplitEdges left (edges e) (elements p) k) ≡ false → RefusesAt answers.Refused (cutCauses left p e k dp de) 5 TooLong (cutAnswer left p e k dp de)
   unfolding tableCauses pivotCauses
-  long-edge left h =
-      call-refuses _ _ 8 (cutCauses left p e k dp de) (after-refused 8 (edgeSlotCauses p e k (inside left (elements p) k)) _ refl (this-refused 8 _ _ _ refl (rw h)))
+  long-edge left h = refuses-at _ _ (cutCauses left p e k dp de) 5 _ _ _ refl (not-fails _ h)
 
   -- ensures et' == SplitLeftEdges(et, pt, pivot)
   -- where one of these edges passes 64 bytes, the cut is refused
-  pub translation-impl-36b : all shortEdge (SplitLeftEdges (edges e) (elements p) k) ≡ false → Refuses answers.Refused 8 (cutAnswer true p e k dp de)
+  pub translation-impl-36b : all shortEdge (SplitLeftEdges (edges e) (elements p) k) ≡ false → RefusesAt answers.Refused (cutCauses true p e k dp de) 5 TooLong (cutAnswer true p e k dp de)
   translation-impl-36b = long-edge true
 
   -- ensures et' == SplitRightEdges(et, pt, pivot)
   -- where one of these edges passes 64 bytes, the cut is refused
-  pub translation-impl-57b : all shortEdge (SplitRightEdges (edges e) (elements p) k) ≡ false → Refuses answers.Refused 8 (cutAnswer false p e k dp de)
+  pub translation-impl-57b : all shortEdge (SplitRightEdges (edges e) (elements p) k) ≡ false → RefusesAt answers.Refused (cutCauses false p e k dp de) 5 TooLong (cutAnswer false p e k dp de)
   translation-impl-57b = long-edge false
 
 -- lent the records of a table and its edges

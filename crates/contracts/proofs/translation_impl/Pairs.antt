@@ -1,12 +1,13 @@
 -- TranslationImpl, lines 216 to 241: an element and a range under another prefix.
 use mathlib.Core.Path.{_≡_, refl, _∙_}
-use mathlib.Core.Bool.{true, false, _&&_}
+use mathlib.Core.Bool.{true, false}
 use mathlib.Core.List.{List, [], _∷_}
 use mathlib.Core.Option.{none, some}
 use Prim.Native.Nat.{ℕ, _*_, _≤_, _<_}
 use native.Mathlib.Omega.{arith}
 use borrow.Author.Tests.{le-ltb, lt-ltb}
 use lib.ListN.{length, take}
+use Rattle.model.specs.declared.Refusal.the-variants.{Malformed, NotPrefix, TooLong, NotBelow}
 use Rattle.model.specs.declared.Answer.the-variants as answers
 use Rattle.model.specs.keys.Key.{Key, maxLen, tooLong, IsPrefix, changePrefix}
 use Rattle.model.specs.keys.Order.{Element, key, lt}
@@ -16,28 +17,27 @@ use Rattle.model.specs.translation.Renaming.{Bounds, TranslateElement, Translat
 use Rattle.model.specs.calls.Refusals.{outcome, first, over}
 use Rattle.model.specs.calls.KeyCalls.{changePrefixCauses, changePrefixAnswer, changePrefixLeaves}
 use Rattle.model.specs.calls.RenamingCalls.{pivotPairCauses, pivotPairAnswer, pivotPairLeaves}
-use Rattle.model.proofs.calls.Refusals.{or-left, or-right}
+use Rattle.model.proofs.calls.Refusals.{or-left, or-right, not-fails}
 use Rattle.model.proofs.calls.TableCalls.{not-too-long}
 use Rattle.model.proofs.calls.KeyCalls.{only-sizes}
 use Rattle.model.proofs.calls.RenamingCalls.{pair-reads}
 use Rattle.model.proofs.keys.Key.{prefix-length}
-use Rattle.contracts.specs.Refuses.{Refuses}
+use Rattle.contracts.specs.Refuses.{RefusesAt}
 use Rattle.contracts.specs.BoundedPivots.{ElementIsKey}
-use Rattle.contracts.proofs.Refusing.{this-refused, next-refused, call-refuses, not-key-long}
+use Rattle.contracts.proofs.Refusing.{refuses-at, not-key-long}
 use Rattle.contracts.proofs.LongRefused.{left-refused, right-refused}
 use Rattle.contracts.proofs.Lent.{size-lent, accepted, element-lent}
-use Rattle.contracts.proofs.translation_impl.Shared.{element-fails}
 
 -- ---- an element: a lone key, through change_prefix
 
 module _ (k p q : Key) (d : List ℕ) where
   -- requires ElementIsKey(e)
-  pub translation-impl-217 : ElementIsKey (key k) ≡ false → Refuses answers.Refused 2 (changePrefixAnswer k p q d)
-  translation-impl-217 h = call-refuses _ _ 2 (changePrefixCauses k p q d) (this-refused 2 _ _ _ refl (or-left _ _ (or-left _ _ (not-key-long k h))))
+  pub translation-impl-217 : ElementIsKey (key k) ≡ false → RefusesAt answers.Refused (changePrefixCauses k p q d) 0 Malformed (changePrefixAnswer k p q d)
+  translation-impl-217 h = refuses-at _ _ (changePrefixCauses k p q d) 0 _ _ _ refl (or-left _ _ (or-left _ _ (not-key-long k h)))
 
   -- requires IsPrefix(prefix, e.e)
-  pub translation-impl-218 : IsPrefix p k ≡ false → Refuses answers.Refused 7 (changePrefixAnswer k p q d)
-  translation-impl-218 h = call-refuses _ _ 7 (changePrefixCauses k p q d) (next-refused 7 _ _ _ refl (this-refused 7 _ _ _ refl (rw h)))
+  pub translation-impl-218 : IsPrefix p k ≡ false → RefusesAt answers.Refused (changePrefixCauses k p q d) 1 NotPrefix (changePrefixAnswer k p q d)
+  translation-impl-218 h = refuses-at _ _ (changePrefixCauses k p q d) 1 _ _ _ refl (not-fails _ h)
 
   -- ensures e' == TranslateElement(e, prefix, newPrefix)
   pub translation-impl-219 : length k ≤ maxLen → length q ≤ maxLen → IsPrefix p k ≡ true → length (changePrefix p q k) ≤ maxLen → length (changePrefix p q k) ≤ length d
@@ -50,44 +50,37 @@ module _ (k p q : Key) (d : List ℕ) where
 
   -- ensures e' == TranslateElement(e, prefix, newPrefix)
   -- where it passes 64 bytes, the call is refused
-  pub translation-impl-219b : maxLen < length (changePrefix p q k) → Refuses answers.Refused 8 (changePrefixAnswer k p q d)
-  translation-impl-219b h =
-      call-refuses _ _ 8 (changePrefixCauses k p q d)
-      (next-refused 8 _ _ _ refl (next-refused 8 _ _ _ refl (this-refused 8 _ _ _ refl (lt-ltb maxLen (length (changePrefix p q k)) h))))
+  pub translation-impl-219b : maxLen < length (changePrefix p q k) → RefusesAt answers.Refused (changePrefixCauses k p q d) 2 TooLong (changePrefixAnswer k p q d)
+  translation-impl-219b h = refuses-at _ _ (changePrefixCauses k p q d) 2 _ _ _ refl (lt-ltb maxLen (length (changePrefix p q k)) h)
 
 -- ---- a range
 
 -- lent any bytes
 module _ (l : Key) (r : List ℕ) (p q : Key) (d : List ℕ) where
   -- requires right.Element? ==> ElementIsKey(right)
-  -- the record is malformed, or stands for a longer key
-  pub translation-impl-226 : (elementReading (reading r) && shortElement (element r)) ≡ false → Refuses answers.Refused 2 (pivotPairAnswer l r p q d)
-  translation-impl-226 h =
-      call-refuses _ _ 2 (pivotPairCauses l r p q d)
-      (next-refused 2 _ _ _ refl (this-refused 2 _ _ _ refl (or-left _ _ (or-left _ _ (or-right (tooLong l) _ (element-fails r h))))))
+  -- the record isn't read as an element; one that is has at most 64 bytes
+  pub translation-impl-226 : elementReading (reading r) ≡ false → RefusesAt answers.Refused (pivotPairCauses l r p q d) 1 Malformed (pivotPairAnswer l r p q d)
+  translation-impl-226 h = refuses-at _ _ (pivotPairCauses l r p q d) 1 _ _ _ refl (or-left _ _ (or-left _ _ (or-right (tooLong l) _ (not-fails _ h))))
 
   -- requires IsPrefix(prefix, left)
-  pub translation-impl-227 : IsPrefix p l ≡ false → Refuses answers.Refused 7 (pivotPairAnswer l r p q d)
-  translation-impl-227 h =
-      call-refuses _ _ 7 (pivotPairCauses l r p q d) (next-refused 7 _ _ _ refl (next-refused 7 _ _ _ refl (this-refused 7 _ _ _ refl (rw h))))
+  pub translation-impl-227 : IsPrefix p l ≡ false → RefusesAt answers.Refused (pivotPairCauses l r p q d) 2 NotPrefix (pivotPairAnswer l r p q d)
+  translation-impl-227 h = refuses-at _ _ (pivotPairCauses l r p q d) 2 _ _ _ refl (not-fails _ h)
 
   -- requires Keyspace.lt(KeyToElement(left), right)
-  pub translation-impl-228 : lt (key l) (element r) ≡ false → Refuses answers.Refused 9 (pivotPairAnswer l r p q d)
-  translation-impl-228 h =
-      call-refuses _ _ 9 (pivotPairCauses l r p q d)
-      (next-refused 9 _ _ _ refl (next-refused 9 _ _ _ refl (next-refused 9 _ _ _ refl (next-refused 9 _ _ _ refl (this-refused 9 _ _ _ refl (rw h))))))
+  pub translation-impl-228 : lt (key l) (element r) ≡ false → RefusesAt answers.Refused (pivotPairCauses l r p q d) 4 NotBelow (pivotPairAnswer l r p q d)
+  translation-impl-228 h = refuses-at _ _ (pivotPairCauses l r p q d) 4 _ _ _ refl (not-fails _ h)
 
   abbrev lent : Bounds
   lent = TranslatePivotPairInternal (key l) (element r) p q
 
   -- && l == KeyToElement(left')
   -- where it passes 64 bytes, the call is refused
-  pub translation-impl-230b : shortElement (lent .left) ≡ false → Refuses answers.Refused 8 (pivotPairAnswer l r p q d)
+  pub translation-impl-230b : shortElement (lent .left) ≡ false → RefusesAt answers.Refused (pivotPairCauses l r p q d) 3 TooLong (pivotPairAnswer l r p q d)
   translation-impl-230b = left-refused l r p q d
 
   -- && r == right'
   -- where it passes 64 bytes, the call is refused
-  pub translation-impl-231b : shortElement (lent .right) ≡ false → Refuses answers.Refused 8 (pivotPairAnswer l r p q d)
+  pub translation-impl-231b : shortElement (lent .right) ≡ false → RefusesAt answers.Refused (pivotPairCauses l r p q d) 3 TooLong (pivotPairAnswer l r p q d)
   translation-impl-231b = right-refused l r p q d
 
 -- lent a key and the record of an element

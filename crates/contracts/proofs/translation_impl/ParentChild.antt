@@ -6,7 +6,7 @@ use mathlib.Core.Option.{none, some}
 use Prim.Native.Nat.{ℕ, _≤_, _<_}
 use borrow.Author.Tests.{le-ltb, lt-ltb}
 use lib.ListN.{length}
-use Rattle.model.specs.declared.Refusal.the-variants.{Shape, Unsorted}
+use Rattle.model.specs.declared.Refusal.the-variants.{Shape, Unsorted, EmptyPrefix, NoSuchSlot, TooLong}
 use Rattle.model.specs.declared.Decided.the-variants as decided
 use Rattle.model.specs.records.Record.{records, elements, edges, encodeAll, encodeEdges}
 use Rattle.model.specs.tables.Tables.{PivotTable, EdgeTable, maxPivots, all, shortElement, shortEdge, IsStrictlySorted, WFPivots, WFEdges}
@@ -14,11 +14,11 @@ use Rattle.model.specs.translation.ParentChild.{slotBounds, ParentKeysInChildRa
 use Rattle.model.specs.calls.Refusals.{Cause, _⇒_, outcome, first, yesOrNo}
 use Rattle.model.specs.calls.TableCalls.{notPivotCount, notEdgeCount, pivotsRead, edgesRead, pivotCauses}
 use Rattle.model.specs.calls.ParentChildCalls.{threeTablesCauses, parentChildCauses, parentChildAnswer}
-use Rattle.model.proofs.calls.Refusals.{none-here, none-before, none-after, or-left, or-right, not-fails, or-neither, not-holds}
+use Rattle.model.proofs.calls.Refusals.{or-left, or-right, or-neither, not-holds, not-fails, none-here, none-before, none-after}
 use Rattle.model.proofs.calls.TableCalls.{either-fails, causes-shape, causes-wrong, causes-read, causes-wf, table-pivots}
 use Rattle.model.proofs.tables.Routing.{wf-sorted}
-use Rattle.contracts.specs.Refuses.{Refuses}
-use Rattle.contracts.proofs.Refusing.{too-many, this-refused, next-refused, after-refused, Refused, call-refuses, more-refused, clause-refused, count-refused, pivots-refused}
+use Rattle.contracts.specs.Refuses.{RefusesAt, Refuses}
+use Rattle.contracts.proofs.Refusing.{refuses-at, too-many, clause-refused, more-refused, call-refuses, pivots-refused, Refused}
 use Rattle.contracts.proofs.Lent.{accepted, go-on, pivots-read, pivots-lent, edges-read, table-lent}
 
 -- ---- lent any bytes
@@ -54,31 +54,31 @@ module _ (p e c : List ℕ) (slot : ℕ) where
       refuses 3 (more-refused 3 sorted _ (clause-refused 3 sorted (WFPivots (elements c)) refl child-wf h))
 
   -- requires WFEdges(parentedges, parentpivots)
-  pub translation-impl-536 : WFEdges (edges e) (elements p) ≡ false → Refuses decided.Refused 4 (parentChildAnswer p e c slot)
+  pub translation-impl-536 : WFEdges (edges e) (elements p) ≡ false → RefusesAt decided.Refused (parentChildCauses p e c slot) 4 EmptyPrefix (parentChildAnswer p e c slot)
   unfolding pivotCauses
-  translation-impl-536 h = refuses 4 (after-refused 4 pivots _ refl (next-refused 4 _ _ _ refl (this-refused 4 _ _ _ refl (rw h))))
+  translation-impl-536 h = refuses-at _ _ (parentChildCauses p e c slot) 4 _ _ _ refl (not-fails _ h)
 
   -- requires 0 <= slot as int < |parentedges|
-  pub translation-impl-537 : length (edges e) ≤ slot → Refuses decided.Refused 6 (parentChildAnswer p e c slot)
+  pub translation-impl-537 : length (edges e) ≤ slot → RefusesAt decided.Refused (parentChildCauses p e c slot) 5 NoSuchSlot (parentChildAnswer p e c slot)
   unfolding pivotCauses
-  translation-impl-537 h =
-      call-refuses _ _ 6 (parentChildCauses p e c slot) (after-refused 6 (threeTablesCauses p e c) _ refl (this-refused 6 _ _ _ refl (not-fails _ (le-ltb slot (length (edges e)) h))))
+  translation-impl-537 h = refuses-at _ _ (parentChildCauses p e c slot) 5 _ _ _ refl (not-fails _ (le-ltb slot (length (edges e)) h))
 
   -- requires |parentpivots| < Uint64UpperBound()
-  pub translation-impl-538 : maxPivots < length (elements p) → Refuses decided.Refused 1 (parentChildAnswer p e c slot)
-  translation-impl-538 h = refuses 1 (more-refused 1 pivots _ (count-refused _ _ p h))
+  pub translation-impl-538 : maxPivots < length (elements p) → RefusesAt decided.Refused (parentChildCauses p e c slot) 0 Shape (parentChildAnswer p e c slot)
+  unfolding pivotCauses
+  translation-impl-538 h = refuses-at _ _ (parentChildCauses p e c slot) 0 _ _ _ refl (or-right (notEdgeCount p e || notPivotCount c) _ (too-many p h))
 
   -- requires |childpivots| < 0x4000_0000_0000_0000
-  pub translation-impl-539 : maxPivots < length (elements c) → Refuses decided.Refused 1 (parentChildAnswer p e c slot)
+  pub translation-impl-539 : maxPivots < length (elements c) → RefusesAt decided.Refused (parentChildCauses p e c slot) 0 Shape (parentChildAnswer p e c slot)
   unfolding pivotCauses
-  translation-impl-539 h = refuses 1 (more-refused 1 pivots _ (this-refused 1 _ _ _ refl (or-left _ _ (or-right (notEdgeCount p e) _ (too-many c h)))))
+  translation-impl-539 h = refuses-at _ _ (parentChildCauses p e c slot) 0 _ _ _ refl (or-left _ _ (or-right (notEdgeCount p e) _ (too-many c h)))
 
   -- ensures b == ParentKeysInChildRange(parentpivots, parentedges, childpivots, slot as int)
   -- where a bound of the slot, translated, passes 64 bytes, the question is refused
   pub translation-impl-540b : (shortElement (slotBounds (elements p) (edges e) slot .left) && shortElement (slotBounds (elements p) (edges e) slot .right)) ≡ false
-      → Refuses decided.Refused 8 (parentChildAnswer p e c slot)
+      → RefusesAt decided.Refused (parentChildCauses p e c slot) 6 TooLong (parentChildAnswer p e c slot)
   unfolding pivotCauses
-  translation-impl-540b h = call-refuses _ _ 8 (parentChildCauses p e c slot) (after-refused 8 (threeTablesCauses p e c) _ refl (next-refused 8 _ _ _ refl (this-refused 8 _ _ _ refl (rw h))))
+  translation-impl-540b h = refuses-at _ _ (parentChildCauses p e c slot) 6 _ _ _ refl (not-fails _ h)
 
 -- ---- lent the records of a parent's table with its edges, and of a child's
 

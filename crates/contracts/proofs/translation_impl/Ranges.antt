@@ -1,42 +1,42 @@
 -- TranslationImpl, lines 71 to 145 and 199 to 214: the prefix of a range, and the upper bound of a prefix.
 use mathlib.Core.Path.{_≡_, refl, _∙_}
-use mathlib.Core.Bool.{true, false, _&&_, false≢true}
+use mathlib.Core.Bool.{true, false, false≢true}
 use mathlib.Core.List.{List}
 use mathlib.Core.Option.{none}
 use Prim.Native.Nat.{ℕ, _≤_}
 use borrow.Author.Tests.{leb-true, le-leb, le-ltb}
 use lib.ListN.{length, take}
+use Rattle.model.specs.declared.Refusal.the-variants.{Malformed}
 use Rattle.model.specs.declared.Answer.the-variants as answers
 use Rattle.model.specs.keys.Key.{Key, maxLen, tooLong}
 use Rattle.model.specs.keys.Order.{Element, key, max}
-use Rattle.model.specs.records.Record.{recordSize, reading, element, elementReading, encode}
+use Rattle.model.specs.records.Record.{recordSize, reading, elementReading, encode}
 use Rattle.model.specs.ranges.RangePrefix.{lcpright, lcp, PivotLcp}
 use Rattle.model.specs.ranges.UpperBound.{ShortestUncommonPrefix}
 use Rattle.model.specs.tables.Tables.{keyOf, shortElement}
 use Rattle.model.specs.calls.Refusals.{outcome, first, over}
 use Rattle.model.specs.calls.KeyCalls.{pivotLcpCauses, pivotLcpAnswer, uncommonPrefixCauses, uncommonPrefixAnswer, uncommonPrefixLeaves}
-use Rattle.model.proofs.calls.Refusals.{or-left, or-right}
+use Rattle.model.proofs.calls.Refusals.{or-left, or-right, not-fails}
 use Rattle.model.proofs.calls.TableCalls.{not-too-long}
 use Rattle.model.proofs.keys.Key.{prefix-is-take}
 use Rattle.model.proofs.ranges.RangePrefix.{prefix-of-left}
-use Rattle.contracts.specs.Refuses.{Refuses}
+use Rattle.contracts.specs.Refuses.{RefusesAt}
 use Rattle.contracts.specs.BoundedPivots.{ElementIsKey}
-use Rattle.contracts.proofs.Refusing.{this-refused, next-refused, call-refuses, not-key-long}
+use Rattle.contracts.proofs.Refusing.{refuses-at, not-key-long}
 use Rattle.contracts.proofs.Lent.{accepted, element-lent}
-use Rattle.contracts.proofs.translation_impl.Shared.{element-fails}
 
 -- ---- the prefix of a range, from a key up to an element
 
 -- lent any bytes
 module _ (l : Key) (r : List ℕ) where
   -- requires ElementIsKey(left)
-  pub translation-impl-127 : ElementIsKey (key l) ≡ false → Refuses answers.Refused 2 (pivotLcpAnswer l r)
-  translation-impl-127 h = call-refuses _ _ 2 (pivotLcpCauses l r) (next-refused 2 _ _ _ refl (this-refused 2 _ _ _ refl (or-left _ _ (not-key-long l h))))
+  pub translation-impl-127 : ElementIsKey (key l) ≡ false → RefusesAt answers.Refused (pivotLcpCauses l r) 1 Malformed (pivotLcpAnswer l r)
+  translation-impl-127 h = refuses-at _ _ (pivotLcpCauses l r) 1 _ _ _ refl (or-left _ _ (not-key-long l h))
 
   -- requires right.Element? ==> ElementIsKey(right)
-  -- the record is malformed, or stands for a longer key
-  pub translation-impl-128 : (elementReading (reading r) && shortElement (element r)) ≡ false → Refuses answers.Refused 2 (pivotLcpAnswer l r)
-  translation-impl-128 h = call-refuses _ _ 2 (pivotLcpCauses l r) (next-refused 2 _ _ _ refl (this-refused 2 _ _ _ refl (or-right (tooLong l) _ (element-fails r h))))
+  -- the record isn't read as an element; one that is has at most 64 bytes
+  pub translation-impl-128 : elementReading (reading r) ≡ false → RefusesAt answers.Refused (pivotLcpCauses l r) 1 Malformed (pivotLcpAnswer l r)
+  translation-impl-128 h = refuses-at _ _ (pivotLcpCauses l r) 1 _ _ _ refl (or-right (tooLong l) _ (not-fails _ h))
 
 -- lent a key and the record of an element
 module _ (l : Key) (r : Element) (s : length l ≤ maxLen) (h : shortElement r ≡ true) where

@@ -1,6 +1,6 @@
 -- TranslationImpl, lines 243 to 283: a table's pivots under another prefix, and its edges filled.
 use mathlib.Core.Path.{_≡_, refl, sym, _∙_}
-use mathlib.Core.Bool.{true, false, _&&_, _||_, true≢false}
+use mathlib.Core.Bool.{true, false, _||_, true≢false}
 use mathlib.Core.List.{List}
 use mathlib.Core.Logic.{⊎-elim}
 use mathlib.Core.Option.{none, some}
@@ -9,6 +9,7 @@ use native.Mathlib.Omega.{arith}
 use borrow.Author.Tests.{le-ltb, ne-eqb}
 use lib.ListN.{length}
 use lib.Seq.{length-take-le, getD-take}
+use Rattle.model.specs.declared.Refusal.the-variants.{Shape, Malformed, EmptyPrefix, NotPrefix, TooLong, NotBelow}
 use Rattle.model.specs.declared.Answer.the-variants as answers
 use Rattle.model.specs.keys.Key.{Key, maxLen, tooLong, IsPrefix}
 use Rattle.model.specs.keys.Order.{Element, max, lt}
@@ -17,7 +18,7 @@ use Rattle.model.specs.tables.Tables.{PivotTable, EdgeTable, NumBuckets, maxPiv
 use Rattle.model.specs.translation.Renaming.{TranslateElement, TranslatePivots}
 use Rattle.model.specs.calls.Refusals.{outcome, first, over}
 use Rattle.model.specs.calls.KeyCalls.{notElement, notRecord}
-use Rattle.model.specs.calls.TableCalls.{pivotCauses, tableCauses, notEdgeCount}
+use Rattle.model.specs.calls.TableCalls.{pivotCauses, tableCauses, notEdgeCount, notPivotCount}
 use Rattle.model.specs.calls.RenamingCalls.{butLast, begun, pivotsCauses, pivotsAnswer, pivotsLeaves, edgesCauses, edgesAnswer, edgesLeaves}
 use Rattle.model.proofs.Lists.{all-inside, inside-all, le-or-lt}
 use Rattle.model.proofs.calls.Refusals.{or-left, or-right, not-fails}
@@ -26,12 +27,11 @@ use Rattle.model.proofs.keys.Order.{refuted}
 use Rattle.model.proofs.tables.Routing.{wf-count}
 use Rattle.model.proofs.translation.Renaming.{pivots-count, edges-count}
 use Rattle.model.proofs.cuts.CutEdges.{edges-say}
-use Rattle.contracts.specs.Refuses.{Refuses}
+use Rattle.contracts.specs.Refuses.{RefusesAt, Refuses}
 use Rattle.contracts.specs.Translation.{TranslatePivotsFrom, TranslateEdgesFrom}
-use Rattle.contracts.proofs.Refusing.{this-refused, next-refused, after-refused, Refused, call-refuses, more-refused, count-refused, wrong-refused, pivots-refused, table-count-refused, table-pivots-refused, edges-refused}
+use Rattle.contracts.proofs.Refusing.{refuses-at, too-many, more-refused, call-refuses, pivots-refused, table-pivots-refused}
 use Rattle.contracts.proofs.LongRefused.{new-pivots-refused}
 use Rattle.contracts.proofs.Lent.{accepted, go-on, element-lent, pivots-read, pivots-lent, edges-read, table-lent}
-use Rattle.contracts.proofs.translation_impl.Shared.{element-fails}
 
 -- ---- pivots
 
@@ -50,41 +50,34 @@ module _ (pt : PivotTable) (p : Key) where
 
 -- lent any bytes
 module _ (v : List ℕ) (p q : Key) (n d : List ℕ) where
-  refuses : (i : ℕ) → Refused i (pivotCauses (notRecord n) (tooLong p || tooLong q || notElement n) v) → Refuses answers.Refused i (pivotsAnswer v p q n d)
-  refuses i h = call-refuses _ _ i (pivotsCauses v p q n d) (more-refused i (pivotCauses (notRecord n) (tooLong p || tooLong q || notElement n) v) _ h)
-
   -- requires |pt| < Uint64UpperBound()
-  pub translation-impl-244 : maxPivots < length (elements v) → Refuses answers.Refused 1 (pivotsAnswer v p q n d)
-  translation-impl-244 h = refuses 1 (count-refused _ _ v h)
+  pub translation-impl-244 : maxPivots < length (elements v) → RefusesAt answers.Refused (pivotsCauses v p q n d) 0 Shape (pivotsAnswer v p q n d)
+  unfolding pivotCauses
+  translation-impl-244 h = refuses-at _ _ (pivotsCauses v p q n d) 0 _ _ _ refl (or-right (notRecord n) _ (too-many v h))
 
   -- requires WFPivots(pt)
   pub translation-impl-245 : WFPivots (elements v) ≡ false → Refuses answers.Refused 3 (pivotsAnswer v p q n d)
-  translation-impl-245 h = refuses 3 (pivots-refused _ _ v h)
+  translation-impl-245 h = call-refuses _ _ 3 (pivotsCauses v p q n d) (more-refused 3 (pivotCauses (notRecord n) (tooLong p || tooLong q || notElement n) v) _ (pivots-refused _ _ v h))
 
   -- requires forall i | 0 <= i < NumBuckets(pt) :: IsPrefix(prefix, pt[i].e)
-  pub translation-impl-246 : (i : ℕ) → i < NumBuckets (elements v) → IsPrefix p (GetKey (elements v) i) ≡ false → Refuses answers.Refused 7 (pivotsAnswer v p q n d)
+  pub translation-impl-246 : (i : ℕ) → i < NumBuckets (elements v) → IsPrefix p (GetKey (elements v) i) ≡ false → RefusesAt answers.Refused (pivotsCauses v p q n d) 3 NotPrefix (pivotsAnswer v p q n d)
   unfolding pivotCauses
-  translation-impl-246 i l h =
-      let f = refuted (all (begun p) (butLast (elements v))) (λ b. true≢false (sym (begun-at (elements v) p b i l) ∙ h)) in
-      call-refuses _ _ 7 (pivotsCauses v p q n d) (after-refused 7 (pivotCauses (notRecord n) (tooLong p || tooLong q || notElement n) v) _ refl (this-refused 7 _ _ _ refl (rw f)))
+  translation-impl-246 i l h = refuses-at _ _ (pivotsCauses v p q n d) 3 _ _ _ refl (not-fails _ (refuted (all (begun p) (butLast (elements v))) (λ b. true≢false (sym (begun-at (elements v) p b i l) ∙ h))))
 
   -- requires end.Element? ==> ElementIsKey(end)
-  -- the record is malformed, or stands for a longer key
-  pub translation-impl-247 : (elementReading (reading n) && shortElement (element n)) ≡ false → Refuses answers.Refused 2 (pivotsAnswer v p q n d)
-  translation-impl-247 h = refuses 2 (wrong-refused _ _ v (or-right (tooLong p || tooLong q) _ (element-fails n h)))
+  -- the record isn't read as an element; one that is has at most 64 bytes
+  pub translation-impl-247 : elementReading (reading n) ≡ false → RefusesAt answers.Refused (pivotsCauses v p q n d) 1 Malformed (pivotsAnswer v p q n d)
+  unfolding pivotCauses
+  translation-impl-247 h = refuses-at _ _ (pivotsCauses v p q n d) 1 _ _ _ refl (or-left _ _ (or-right (tooLong p || tooLong q) _ (not-fails _ h)))
 
   -- requires Keyspace.lt(TranslateElement(pt[|pt|-2], prefix, newPrefix), end)
-  pub translation-impl-248 : lt (TranslateElement p q (pivotAt (elements v) (length (elements v) - 2))) (element n) ≡ false → Refuses answers.Refused 9 (pivotsAnswer v p q n d)
+  pub translation-impl-248 : lt (TranslateElement p q (pivotAt (elements v) (length (elements v) - 2))) (element n) ≡ false → RefusesAt answers.Refused (pivotsCauses v p q n d) 5 NotBelow (pivotsAnswer v p q n d)
   unfolding pivotCauses
-  translation-impl-248 h =
-      let i : NumBuckets (elements v) - 1 ≡ length (elements v) - 2 = omega arith in
-      call-refuses _ _ 9 (pivotsCauses v p q n d)
-      (after-refused 9 (pivotCauses (notRecord n) (tooLong p || tooLong q || notElement n) v) _ refl
-      (next-refused 9 _ _ _ refl (next-refused 9 _ _ _ refl (this-refused 9 _ _ _ refl (rw (i, h))))))
+  translation-impl-248 h = refuses-at _ _ (pivotsCauses v p q n d) 5 _ _ _ refl (let i : NumBuckets (elements v) - 1 ≡ length (elements v) - 2 = omega arith in rw (i, h))
 
   -- ensures pt' == TranslatePivots(pt, prefix, newPrefix, end, 0)
   -- where one of these pivots passes 64 bytes, the call is refused
-  pub translation-impl-249b : all shortElement (TranslatePivots (elements v) p q (element n)) ≡ false → Refuses answers.Refused 8 (pivotsAnswer v p q n d)
+  pub translation-impl-249b : all shortElement (TranslatePivots (elements v) p q (element n)) ≡ false → RefusesAt answers.Refused (pivotsCauses v p q n d) 4 TooLong (pivotsAnswer v p q n d)
   translation-impl-249b = new-pivots-refused v p q n d
 
 -- lent the records of pivots and of an end
@@ -112,30 +105,32 @@ module _ (pt : PivotTable) (w : WFPivots pt ≡ true) (m : length pt ≤ maxPivo
 
 -- ---- edges
 
--- edges that aren't fewer than the pivots
-few : (p e : List ℕ) → length (elements p) ≤ length (edges e) → Refused 1 (tableCauses false false p e)
-unfolding tableCauses pivotCauses notEdgeCount
-few p e h =
-    let l = length-elements p in
-    let m = length-edges e in
-    this-refused 1 _ _ _ refl (or-left _ _ (not-fails _ (ne-eqb (length e + recordSize) (length p) (λ n. omega arith))))
+-- 64 edges, or more, aren't one fewer than a table's pivots
+few : (p e : List ℕ) → maxPivots ≤ length (edges e) → (notEdgeCount p e || notPivotCount p) ≡ true
+few p e h = ⊎-elim less (λ m. or-right (notEdgeCount p e) _ (too-many p m)) (le-or-lt (length (elements p)) maxPivots)
+  where
+    less : length (elements p) ≤ maxPivots → (notEdgeCount p e || notPivotCount p) ≡ true
+    less m =
+        let l = length-elements p in
+        let n = length-edges e in
+        or-left (notEdgeCount p e) (notPivotCount p) (unfold notEdgeCount in not-fails _ (ne-eqb (length e + recordSize) (length p) (λ i. omega arith)))
 
 -- lent any bytes
 module _ (p e d : List ℕ) where
   -- requires |et| < Uint64UpperBound()
   -- the limit is 63 edges, one fewer than pivots
-  pub translation-impl-264 : maxPivots ≤ length (edges e) → Refuses answers.Refused 1 (edgesAnswer p e d)
-  translation-impl-264 h =
-      call-refuses _ _ 1 (edgesCauses p e d)
-      (more-refused 1 (tableCauses false false p e) _ (⊎-elim (λ m. few p e (omega (arith, h, m))) (table-count-refused false false p e) (le-or-lt (length (elements p)) maxPivots)))
+  pub translation-impl-264 : maxPivots ≤ length (edges e) → RefusesAt answers.Refused (edgesCauses p e d) 0 Shape (edgesAnswer p e d)
+  unfolding tableCauses pivotCauses
+  translation-impl-264 h = refuses-at _ _ (edgesCauses p e d) 0 _ _ _ refl (few p e h)
 
   -- requires WFPivots(pt)
   pub translation-impl-265 : WFPivots (elements p) ≡ false → Refuses answers.Refused 3 (edgesAnswer p e d)
   translation-impl-265 h = call-refuses _ _ 3 (edgesCauses p e d) (more-refused 3 (tableCauses false false p e) _ (table-pivots-refused false false p e h))
 
   -- requires WFEdges(et, pt)
-  pub translation-impl-266 : WFEdges (edges e) (elements p) ≡ false → Refuses answers.Refused 4 (edgesAnswer p e d)
-  translation-impl-266 h = call-refuses _ _ 4 (edgesCauses p e d) (more-refused 4 (tableCauses false false p e) _ (edges-refused false false p e h))
+  pub translation-impl-266 : WFEdges (edges e) (elements p) ≡ false → RefusesAt answers.Refused (edgesCauses p e d) 3 EmptyPrefix (edgesAnswer p e d)
+  unfolding tableCauses pivotCauses
+  translation-impl-266 h = refuses-at _ _ (edgesCauses p e d) 3 _ _ _ refl (not-fails _ h)
 
 -- lent the records of a table and its edges
 module _ (pt : PivotTable) (et : EdgeTable) (w : WFPivots pt ≡ true) (m : length pt ≤ maxPivots) (x : WFEdges et pt ≡ true) (s : all shortEdge et ≡ true)

@@ -1,82 +1,79 @@
 -- TranslationImpl, lines 147 to 197: the translation of a key in a table, and composing prefix pairs.
 use mathlib.Core.Path.{_≡_, refl, _∙_}
-use mathlib.Core.Bool.{true, false, _||_}
+use mathlib.Core.Bool.{true, false}
 use mathlib.Core.List.{List}
 use mathlib.Core.Option.{Option, none, some}
 use Prim.Native.Nat.{ℕ, _≤_, _<_}
 use borrow.Author.Tests.{lt-ltb}
 use lib.ListN.{length}
+use Rattle.model.specs.declared.Refusal.the-variants.{Shape, EmptyPrefix, OutOfRange, NotPrefix, TooLong}
 use Rattle.model.specs.declared.Answer.the-variants as answers
 use Rattle.model.specs.keys.Key.{Key, maxLen, tooLong}
 use Rattle.model.specs.records.Record.{elements, edges, encodeAll, encodeEdges}
 use Rattle.model.specs.tables.Tables.{PivotTable, EdgeTable, maxPivots, all, shortEdge, WFPivots, WFEdges, BoundedKey}
 use Rattle.model.specs.translation.PrefixSet.{PrefixSet, Composable, ComposePrefixSet, longPair}
-use Rattle.model.specs.translation.PairState.{notPair, PairState, pairOf, stateOf}
+use Rattle.model.specs.translation.PairState.{PairState, pairOf, stateOf}
 use Rattle.model.specs.translation.Translation.{Translate, TranslateKey}
 use Rattle.model.specs.calls.Refusals.{outcome, first, over}
-use Rattle.model.specs.calls.TableCalls.{pivotCauses, tableCauses}
+use Rattle.model.specs.calls.TableCalls.{pivotCauses, tableCauses, notEdgeCount}
 use Rattle.model.specs.calls.PairCalls.{thereNumber, composeCauses, composeAnswer, composePair}
 use Rattle.model.specs.calls.TranslationCalls.{translateCauses, translateAnswer, translatePair, translateKeyCauses, translateKeyAnswer, translateKeyLeaves}
 use Rattle.model.proofs.translation.PairState.{state-pair, state-wrong}
-use Rattle.contracts.specs.Refuses.{Refuses}
-use Rattle.contracts.proofs.Refusing.{prefix-refused, this-refused, next-refused, after-refused, Refused, call-refuses, more-refused, table-count-refused, table-pivots-refused, edges-refused, edge-slot-refused}
+use Rattle.model.proofs.calls.Refusals.{or-right, not-fails}
+use Rattle.contracts.specs.Refuses.{RefusesAt, Refuses}
+use Rattle.contracts.proofs.Refusing.{refuses-at, too-many, Refused, more-refused, call-refuses, table-pivots-refused}
 use Rattle.contracts.proofs.Lent.{size-lent, accepted, go-on, pivots-read, edges-read, edge-slot-lent}
 
 -- ---- the key's pair, and the key translated: lent any bytes
 
 module _ (p e : List ℕ) (k : Key) where
-  many : maxPivots < length (elements p) → Refused 1 (translateCauses p e k)
-  many h = more-refused 1 (tableCauses false (tooLong k) p e) _ (table-count-refused false (tooLong k) p e h)
-
-  badPivots : WFPivots (elements p) ≡ false → Refused 3 (translateCauses p e k)
-  badPivots h = more-refused 3 (tableCauses false (tooLong k) p e) _ (table-pivots-refused false (tooLong k) p e h)
-
-  outside : BoundedKey (elements p) k ≡ false → Refused 5 (translateCauses p e k)
-  outside = edge-slot-refused p e k (BoundedKey (elements p) k)
-
-  badEdges : WFEdges (edges e) (elements p) ≡ false → Refused 4 (translateCauses p e k)
-  badEdges h = more-refused 4 (tableCauses false (tooLong k) p e) _ (edges-refused false (tooLong k) p e h)
+  bad-pivots : WFPivots (elements p) ≡ false → Refused 3 (translateCauses p e k)
+  bad-pivots h = more-refused 3 (tableCauses false (tooLong k) p e) _ (table-pivots-refused false (tooLong k) p e h)
 
   -- requires |pt| < 0x4000_0000_0000_0000
-  pub translation-impl-148 : maxPivots < length (elements p) → Refuses answers.Refused 1 (translateAnswer p e k)
-  translation-impl-148 h = call-refuses _ _ 1 _ (many h)
+  pub translation-impl-148 : maxPivots < length (elements p) → RefusesAt answers.Refused (translateCauses p e k) 0 Shape (translateAnswer p e k)
+  unfolding tableCauses pivotCauses
+  translation-impl-148 h = refuses-at _ _ (translateCauses p e k) 0 _ _ _ refl (or-right (notEdgeCount p e) _ (too-many p h))
 
   -- requires WFPivots(pt)
   pub translation-impl-149 : WFPivots (elements p) ≡ false → Refuses answers.Refused 3 (translateAnswer p e k)
-  translation-impl-149 h = call-refuses _ _ 3 _ (badPivots h)
+  translation-impl-149 h = call-refuses _ _ 3 _ (bad-pivots h)
 
   -- requires BoundedKey(pt, key)
-  pub translation-impl-150 : BoundedKey (elements p) k ≡ false → Refuses answers.Refused 5 (translateAnswer p e k)
-  translation-impl-150 h = call-refuses _ _ 5 _ (outside h)
+  pub translation-impl-150 : BoundedKey (elements p) k ≡ false → RefusesAt answers.Refused (translateCauses p e k) 4 OutOfRange (translateAnswer p e k)
+  unfolding tableCauses pivotCauses
+  translation-impl-150 h = refuses-at _ _ (translateCauses p e k) 4 _ _ _ refl (not-fails _ h)
 
   -- requires WFEdges(et, pt)
-  pub translation-impl-151 : WFEdges (edges e) (elements p) ≡ false → Refuses answers.Refused 4 (translateAnswer p e k)
-  translation-impl-151 h = call-refuses _ _ 4 _ (badEdges h)
+  pub translation-impl-151 : WFEdges (edges e) (elements p) ≡ false → RefusesAt answers.Refused (translateCauses p e k) 3 EmptyPrefix (translateAnswer p e k)
+  unfolding tableCauses pivotCauses
+  translation-impl-151 h = refuses-at _ _ (translateCauses p e k) 3 _ _ _ refl (not-fails _ h)
 
   module _ (d : List ℕ) where
     -- requires |pt| < 0x4000_0000_0000_0000
-    pub translation-impl-165 : maxPivots < length (elements p) → Refuses answers.Refused 1 (translateKeyAnswer p e k d)
-    translation-impl-165 h = call-refuses _ _ 1 _ (more-refused 1 (translateCauses p e k) _ (many h))
+    pub translation-impl-165 : maxPivots < length (elements p) → RefusesAt answers.Refused (translateKeyCauses p e k d) 0 Shape (translateKeyAnswer p e k d)
+    unfolding tableCauses pivotCauses
+    translation-impl-165 h = refuses-at _ _ (translateKeyCauses p e k d) 0 _ _ _ refl (or-right (notEdgeCount p e) _ (too-many p h))
 
     -- requires WFPivots(pt)
     pub translation-impl-166 : WFPivots (elements p) ≡ false → Refuses answers.Refused 3 (translateKeyAnswer p e k d)
-    translation-impl-166 h = call-refuses _ _ 3 _ (more-refused 3 (translateCauses p e k) _ (badPivots h))
+    translation-impl-166 h = call-refuses _ _ 3 _ (more-refused 3 (translateCauses p e k) _ (bad-pivots h))
 
     -- requires BoundedKey(pt, key)
-    pub translation-impl-167 : BoundedKey (elements p) k ≡ false → Refuses answers.Refused 5 (translateKeyAnswer p e k d)
-    translation-impl-167 h = call-refuses _ _ 5 _ (more-refused 5 (translateCauses p e k) _ (outside h))
+    pub translation-impl-167 : BoundedKey (elements p) k ≡ false → RefusesAt answers.Refused (translateKeyCauses p e k d) 4 OutOfRange (translateKeyAnswer p e k d)
+    unfolding tableCauses pivotCauses
+    translation-impl-167 h = refuses-at _ _ (translateKeyCauses p e k d) 4 _ _ _ refl (not-fails _ h)
 
     -- requires WFEdges(et, pt)
-    pub translation-impl-168 : WFEdges (edges e) (elements p) ≡ false → Refuses answers.Refused 4 (translateKeyAnswer p e k d)
-    translation-impl-168 h = call-refuses _ _ 4 _ (more-refused 4 (translateCauses p e k) _ (badEdges h))
+    pub translation-impl-168 : WFEdges (edges e) (elements p) ≡ false → RefusesAt answers.Refused (translateKeyCauses p e k d) 3 EmptyPrefix (translateKeyAnswer p e k d)
+    unfolding tableCauses pivotCauses
+    translation-impl-168 h = refuses-at _ _ (translateKeyCauses p e k d) 3 _ _ _ refl (not-fails _ h)
 
     -- ensures k == TranslateKey(pt, et, key)
     -- where it passes 64 bytes, the call is refused
-    pub translation-impl-170b : maxLen < length (TranslateKey (elements p) (edges e) k) → Refuses answers.Refused 8 (translateKeyAnswer p e k d)
+    pub translation-impl-170b : maxLen < length (TranslateKey (elements p) (edges e) k) → RefusesAt answers.Refused (translateKeyCauses p e k d) 5 TooLong (translateKeyAnswer p e k d)
     unfolding tableCauses pivotCauses
-    translation-impl-170b h =
-        call-refuses _ _ 8 (translateKeyCauses p e k d)
-        (after-refused 8 (translateCauses p e k) _ refl (this-refused 8 _ _ _ refl (lt-ltb maxLen (length (TranslateKey (elements p) (edges e) k)) h)))
+    translation-impl-170b h = refuses-at _ _ (translateKeyCauses p e k d) 5 _ _ _ refl (lt-ltb maxLen (length (TranslateKey (elements p) (edges e) k)) h)
 
 -- ---- lent the records of a table and its edges
 
@@ -105,8 +102,8 @@ module _ (pt : PivotTable) (et : EdgeTable) (w : WFPivots pt ≡ true) (m : leng
 -- ---- composing
 
 -- requires ComposePrefixSet.requires(a, b)
-pub translation-impl-182 : (a b : PairState) → Composable (pairOf a) (pairOf b) ≡ false → Refuses answers.Refused 7 (composeAnswer a b)
-translation-impl-182 a b h = call-refuses _ _ 7 (composeCauses a b) (prefix-refused (notPair a || notPair b) (Composable (pairOf a) (pairOf b)) _ h)
+pub translation-impl-182 : (a b : PairState) → Composable (pairOf a) (pairOf b) ≡ false → RefusesAt answers.Refused (composeCauses a b) 1 NotPrefix (composeAnswer a b)
+translation-impl-182 a b h = refuses-at _ _ (composeCauses a b) 1 _ _ _ refl (not-fails _ h)
 
 -- ensures c == ComposePrefixSet(a, b)
 pub translation-impl-183 : (a b : Option PrefixSet) → longPair a ≡ false → longPair b ≡ false → Composable a b ≡ true → longPair (ComposePrefixSet a b) ≡ false
@@ -118,5 +115,5 @@ translation-impl-183 a b f g h s =
 
 -- ensures c == ComposePrefixSet(a, b)
 -- where one of its prefixes passes 64 bytes, the call is refused
-pub translation-impl-183b : (a b : PairState) → longPair (ComposePrefixSet (pairOf a) (pairOf b)) ≡ true → Refuses answers.Refused 8 (composeAnswer a b)
-translation-impl-183b a b h = call-refuses _ _ 8 (composeCauses a b) (next-refused 8 _ _ _ refl (next-refused 8 _ _ _ refl (this-refused 8 _ _ _ refl h)))
+pub translation-impl-183b : (a b : PairState) → longPair (ComposePrefixSet (pairOf a) (pairOf b)) ≡ true → RefusesAt answers.Refused (composeCauses a b) 2 TooLong (composeAnswer a b)
+translation-impl-183b a b h = refuses-at _ _ (composeCauses a b) 2 _ _ _ refl (h)

@@ -6,23 +6,25 @@ use mathlib.Core.Option.{Option, none, some}
 use Prim.Native.Nat.{ℕ, _≤_, _<_}
 use native.Mathlib.Omega.{arith}
 use lib.ListN.{length}
+use Rattle.model.specs.declared.Refusal.the-variants.{NotPrefix}
 use Rattle.model.specs.declared.Refusal.{Refusal}
 use Rattle.model.specs.declared.Answer.the-variants as answers
-use Rattle.model.specs.keys.Key.{Key, Bytes, maxLen, tooLong, IsPrefix}
+use Rattle.model.specs.keys.Key.{Key, Bytes, maxLen, IsPrefix}
 use Rattle.model.specs.tables.Tables.{PivotTable, EdgeTable, WFPivots, BoundedKey}
 use Rattle.model.specs.translation.PrefixSet.{PrefixSet, RevPrefixSet, Begins, ApplyPrefixSet, Composable, longPair}
-use Rattle.model.specs.translation.PairState.{PairState, notPair, pairOf, stateOf}
+use Rattle.model.specs.translation.PairState.{PairState, pairOf, stateOf}
 use Rattle.model.specs.translation.Translation.{Translate}
 use Rattle.model.specs.calls.Refusals.{outcome, over}
 use Rattle.model.specs.calls.KeyCalls.{sizeCauses}
-use Rattle.model.specs.calls.PairCalls.{applyCauses, applyAnswer, applyLeaves, composeAnswer}
+use Rattle.model.specs.calls.PairCalls.{applyCauses, applyAnswer, applyLeaves, composeAnswer, composeCauses}
 use Rattle.model.proofs.keys.Key.{prefix-refl, prefix-nested}
 use Rattle.model.proofs.translation.PrefixSet.{applied-begins}
 use Rattle.model.proofs.translation.PairState.{state-pair}
 use Rattle.model.proofs.cuts.Preserved.{translate-begins}
 use Rattle.model.proofs.calls.PairCalls.{only-state-sizes}
-use Rattle.contracts.specs.Refuses.{Refuses}
-use Rattle.contracts.proofs.Refusing.{prefix-refused, Refused, call-refuses}
+use Rattle.model.proofs.calls.Refusals.{not-fails}
+use Rattle.contracts.specs.Refuses.{RefusesAt}
+use Rattle.contracts.proofs.Refusing.{refuses-at}
 use Rattle.contracts.proofs.Lent.{size-lent, accepted}
 
 -- ---- the pair of a key's slot
@@ -55,9 +57,8 @@ module _ (pset : Option PrefixSet) (k : Key) (d : List ℕ) (p : longPair pset �
 
 -- requires pset.Some? ==> IsPrefix(pset.value.prefix, key)
 pub translation-lib-183 : (s : PairState) (k : Key) (d : List ℕ) (pset : PrefixSet) → pairOf s ≡ some pset → IsPrefix (pset .prefix) k ≡ false
-    → Refuses answers.Refused 7 (applyAnswer s k d)
-translation-lib-183 s k d pset e h =
-    call-refuses _ _ 7 _ (prefix-refused (notPair s || tooLong k) (Begins (pairOf s) k) _ (rw e (unfold Begins in h)))
+    → RefusesAt answers.Refused (applyCauses s k d) 1 NotPrefix (applyAnswer s k d)
+translation-lib-183 s k d pset e h = refuses-at _ _ (applyCauses s k d) 1 _ _ _ refl (not-fails (Begins (pairOf s) k) (rw e (unfold Begins in h)))
 
 -- ensures pset.Some? ==> IsPrefix(pset.value.newPrefix, key')
 pub translation-lib-184 : (pset : PrefixSet) (k : Key) → IsPrefix (pset .newPrefix) (ApplyPrefixSet (some pset) k) ≡ true
@@ -85,6 +86,5 @@ translation-lib-193 a b h = (
 
 -- requires a.Some? && b.Some? ==> ( IsPrefix(a.value.prefix, b.value.prefix) || IsPrefix(b.value.prefix, a.value.prefix))
 pub translation-lib-194 : (s t : PairState) (a b : PrefixSet) → pairOf s ≡ some a → pairOf t ≡ some b
-    → (IsPrefix (a .prefix) (b .prefix) || IsPrefix (b .prefix) (a .prefix)) ≡ false → Refuses answers.Refused 7 (composeAnswer s t)
-translation-lib-194 s t a b e f h =
-    call-refuses _ _ 7 _ (prefix-refused (notPair s || notPair t) (Composable (pairOf s) (pairOf t)) _ (rw (e, f) (unfold Composable in h)))
+    → (IsPrefix (a .prefix) (b .prefix) || IsPrefix (b .prefix) (a .prefix)) ≡ false → RefusesAt answers.Refused (composeCauses s t) 1 NotPrefix (composeAnswer s t)
+translation-lib-194 s t a b e f h = refuses-at _ _ (composeCauses s t) 1 _ _ _ refl (not-fails (Composable (pairOf s) (pairOf t)) (rw (e, f) (unfold Composable in h)))

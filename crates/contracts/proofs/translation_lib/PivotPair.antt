@@ -6,6 +6,7 @@ use Prim.Native.Nat.{ℕ, _+_, _-_, _≤_, _<_}
 use native.Mathlib.Omega.{arith}
 use lib.Dec.{leb}
 use lib.ListN.{length}
+use Rattle.model.specs.declared.Refusal.the-variants.{TooLong}
 use Rattle.model.specs.declared.Answer.the-variants as answers
 use Rattle.model.specs.keys.Key.{Key, Bytes, maxLen, IsPrefix}
 use Rattle.model.specs.keys.Order.{Element, key, max, isKey, lt}
@@ -15,7 +16,7 @@ use Rattle.model.specs.ranges.UpperBound.{ShortestUncommonPrefix}
 use Rattle.model.specs.tables.Tables.{PivotTable, EdgeTable, NumBuckets, pivotAt, edgeAt, keyOf, shortElement, WFPivots, ContainsRange}
 use Rattle.model.specs.translation.Renaming.{TranslateElement, translateRight, TranslatePivotPairInternal}
 use Rattle.model.specs.translation.ParentChild.{slotBounds, boundsUnder, ParentKeysInChildRange}
-use Rattle.model.specs.calls.RenamingCalls.{newBounds, pivotPairAnswer}
+use Rattle.model.specs.calls.RenamingCalls.{newBounds, pivotPairAnswer, pivotPairCauses}
 use Rattle.model.proofs.keys.ChangePrefix.{change-begins}
 use Rattle.model.proofs.ranges.RangePrefix.{prefix-of-left}
 use Rattle.model.proofs.tables.Places.{sorted-at}
@@ -24,7 +25,7 @@ use Rattle.model.proofs.cuts.Between.{BytesT, bytes-at}
 use Rattle.model.proofs.cuts.CutEdges.{slotPrefix}
 use Rattle.model.proofs.translation.ParentChild.{parent-child-none}
 use Rattle.model.proofs.translation.PivotPair.{element-short, Lacks, isMax, other, right-short, pair-rises, pair-shares}
-use Rattle.contracts.specs.Refuses.{Refuses}
+use Rattle.contracts.specs.Refuses.{RefusesAt}
 use Rattle.contracts.specs.BoundedPivots.{ElementIsKey}
 use Rattle.contracts.specs.Translation.{AllKeysInBetweenHasPrefix, ShortestUncommonPrefixAt}
 use Rattle.contracts.proofs.LongRefused.{left-refused, right-refused}
@@ -34,9 +35,9 @@ use Rattle.contracts.proofs.translation_lib.Ranges.{translation-lib-215
 
 module _ (p q k : Key) where
   -- ensures ElementIsKey(e')
-  -- it holds exactly where the produced length is at most 64; past that the call that translates a range from k refuses
+  -- it holds exactly where the produced length is at most 64; past that the call that translates a range from k answers 8, unless a cause before it applies
   pub translation-lib-247 : (ElementIsKey (TranslateElement p q (key k)) ≡ leb (length q + (length k - length p)) maxLen)
-      × ((r d : List ℕ) → ElementIsKey (TranslateElement p q (key k)) ≡ false → Refuses answers.Refused 8 (pivotPairAnswer k r p q d))
+      × ((r d : List ℕ) → ElementIsKey (TranslateElement p q (key k)) ≡ false → RefusesAt answers.Refused (pivotPairCauses k r p q d) 3 TooLong (pivotPairAnswer k r p q d))
   unfolding TranslateElement TranslatePivotPairInternal
   translation-lib-247 = (element-short p q k, λ r d. left-refused k r p q d)
 
@@ -98,17 +99,17 @@ translation-lib-274 l right p q = pair-rises p q l right
 -- as at line 247
 pub translation-lib-275 : (l : Key) (right : Element) (p q : Key)
     → (ElementIsKey (TranslatePivotPairInternal (key l) right p q .left) ≡ leb (length q + (length l - length p)) maxLen)
-    × ((r d : List ℕ) → ElementIsKey (newBounds l r p q .left) ≡ false → Refuses answers.Refused 8 (pivotPairAnswer l r p q d))
+    × ((r d : List ℕ) → ElementIsKey (newBounds l r p q .left) ≡ false → RefusesAt answers.Refused (pivotPairCauses l r p q d) 3 TooLong (pivotPairAnswer l r p q d))
 unfolding TranslatePivotPairInternal
 translation-lib-275 l right p q = translation-lib-247 p q l
 
 -- && (right'.Element? ==> ElementIsKey(right'))
--- it holds where right is max or lacks the prefix; where right has it, exactly if the produced length is at most 64; past that the call refuses
+-- it holds where right is max or lacks the prefix; where right has it, exactly if the produced length is at most 64; past that the call answers 8, as there
 pub translation-lib-276 : (l : Key) (right : Element) (p q : Key)
     → (Lacks p right → length q ≤ maxLen → shortElement (TranslatePivotPairInternal (key l) right p q .right) ≡ true)
     × ((k : Key) → right ≡ key k → IsPrefix p k ≡ true
     → shortElement (TranslatePivotPairInternal (key l) right p q .right) ≡ leb (length q + (length k - length p)) maxLen)
-    × ((r d : List ℕ) → shortElement (newBounds l r p q .right) ≡ false → Refuses answers.Refused 8 (pivotPairAnswer l r p q d))
+    × ((r d : List ℕ) → shortElement (newBounds l r p q .right) ≡ false → RefusesAt answers.Refused (pivotPairCauses l r p q d) 3 TooLong (pivotPairAnswer l r p q d))
 unfolding TranslatePivotPairInternal translateRight
 translation-lib-276 l right p q = (right-short p q right, λ k e h. rw (e, h) (element-short p q k), λ r d. right-refused l r p q d)
 

@@ -8,6 +8,7 @@ use native.Mathlib.Nat.{add-zero, add-comm}
 use native.Mathlib.Omega.{arith}
 use lib.ListN.{length, take, drop, length-drop, drop-of-length-le}
 use lib.Seq.{drop-cons, getD-drop}
+use Rattle.model.specs.declared.Refusal.the-variants.{TooLong}
 use Rattle.model.specs.declared.Answer.the-variants as answers
 use Rattle.model.specs.declared.Decided.the-variants as decided
 use Rattle.model.specs.keys.Key.{Key, IsPrefix}
@@ -17,14 +18,14 @@ use Rattle.model.specs.ranges.RangePrefix.{PivotLcp}
 use Rattle.model.specs.tables.Tables.{PivotTable, EdgeTable, NumBuckets, pivotAt, edgeAt, lastPivot, keyOf, ElementsAreKeys, IsStrictlySorted, WFPivots, WFEdges}
 use Rattle.model.specs.translation.Renaming.{TranslateElement, TranslatePivots, filled, edgesFrom, TranslateEdges}
 use Rattle.model.specs.calls.TableCalls.{wfPivotsAnswer}
-use Rattle.model.specs.calls.RenamingCalls.{newPivots, pivotsAnswer, pivotsLeaves}
+use Rattle.model.specs.calls.RenamingCalls.{newPivots, pivotsAnswer, pivotsLeaves, pivotsCauses}
 use Rattle.model.proofs.tables.Places.{sorted-tail}
 use Rattle.model.proofs.tables.Routing.{wf-of}
 use Rattle.model.proofs.cuts.CutEdges.{slotPrefix, edges-say}
 use Rattle.model.proofs.translation.Renaming.{pivots-count, pivots-last, pivots-keys, pivots-begin, pivots-back, pivots-rise, pivots-from, edges-count, edges-kept, edges-filled, edges-from}
 use Rattle.model.proofs.calls.TableCalls.{causes-wf}
 use Rattle.model.proofs.calls.RenamingCalls.{pivots-read, pivots-pass}
-use Rattle.contracts.specs.Refuses.{Refuses}
+use Rattle.contracts.specs.Refuses.{RefusesAt}
 use Rattle.contracts.specs.Translation.{TranslatePivotsFrom, TranslateEdgesFrom}
 use Rattle.contracts.proofs.LongRefused.{new-pivots-refused}
 use Rattle.contracts.proofs.Lent.{accepted}
@@ -96,12 +97,12 @@ module _ (pt : PivotTable) (p q : Key) (end : Element) (idx : ℕ) (h : idx < Nu
     translation-lib-307 i l = rw (place i) (sym (pivots-back pt p q end w f (idx + i) (inside i l)))
 
 -- ensures WFPivots(pt')
--- of the call: what it leaves where it is accepted are those pivots, well formed, and they pass the check; past 64 bytes it refuses
+-- of the call: what it leaves where it is accepted are those pivots, well formed, and they pass the check; past 64 bytes it answers 8, unless a cause before it applies
 pub translation-lib-303b : (v : List ℕ) (p q : Key) (n d : List ℕ)
     → ((m : ℕ) → pivotsAnswer v p q n d ≡ answers.Value m
     → (elements (take (m * recordSize) (pivotsLeaves v p q n d)) ≡ newPivots v p q n) × (WFPivots (newPivots v p q n) ≡ true)
     × (wfPivotsAnswer (take (m * recordSize) (pivotsLeaves v p q n d)) ≡ decided.Yes))
-    × (ElementsAreKeys (newPivots v p q n) ≡ false → Refuses answers.Refused 8 (pivotsAnswer v p q n d))
+    × (ElementsAreKeys (newPivots v p q n) ≡ false → RefusesAt answers.Refused (pivotsCauses v p q n d) 4 TooLong (pivotsAnswer v p q n d))
 translation-lib-303b v p q n d = (
   λ m h.
       let c = pivots-pass v p q n d m h in
