@@ -1,12 +1,13 @@
--- Declarations of BoundedPivotsLib that no call needs.
-use mathlib.Core.Bool.{Bool, false, _&&_}
+-- Declarations of BoundedPivotsLib that no call needs, and the lines of WFPivots.
+use mathlib.Core.Path.{_≡_}
+use mathlib.Core.Bool.{Bool, true, false, _&&_}
 use mathlib.Core.List.{List, [], map}
-use Prim.Native.Nat.{ℕ, _-_}
+use Prim.Native.Nat.{ℕ, _-_, _≤_, _<_}
 use lib.Dec.{eqb, leb, ltb}
 use lib.ListN.{length, getD}
 use Rattle.model.specs.keys.Key.{Key, maxLen}
-use Rattle.model.specs.keys.Order.{Element, key, max}
-use Rattle.model.specs.tables.Tables.{PivotTable, all, implies, BoundedKey, Route}
+use Rattle.model.specs.keys.Order.{Element, key, max, isKey}
+use Rattle.model.specs.tables.Tables.{PivotTable, NumBuckets, pivotAt, all, implies, ElementsAreKeys, IsStrictlySorted, BoundedKey, Route}
 
 -- ElementIsKey: a key of at most 64 bytes
 abbrev pub ElementIsKey : Element → Bool
@@ -33,3 +34,10 @@ PivotSize max = 0
 -- PivotTableBucketKeySet: whether a key is in the set
 unfoldable pub PivotTableBucketKeySet : PivotTable → ℕ → Key → Bool
 PivotTableBucketKeySet pt i k = BoundedKey pt k && eqb (Route pt k) i
+
+-- the four lines of WFPivots
+pub record WFLines (pt : PivotTable) : Type 0 where
+  pub sorted : IsStrictlySorted pt ≡ true
+  pub keys : (i : ℕ) → i < NumBuckets pt → isKey (pivotAt pt i) ≡ true
+  pub areKeys : ElementsAreKeys pt ≡ true
+  pub many : 2 ≤ length pt

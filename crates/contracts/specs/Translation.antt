@@ -3,14 +3,16 @@ use mathlib.Core.Path.{_≡_}
 use mathlib.Core.Bool.{Bool, true, cond, not, _&&_}
 use mathlib.Core.List.{List, map}
 use mathlib.Core.Option.{Option}
-use Prim.Native.Nat.{ℕ, zero, suc, _+_}
+use Prim.Native.Nat.{ℕ, zero, suc, _+_, _<_}
 use lib.Dec.{ltb}
 use lib.ListN.{length, take, drop, getD}
 use Rattle.model.specs.keys.Key.{Key, Bytes, isNil, IsPrefix}
 use Rattle.model.specs.keys.Order.{Element, max}
+use Rattle.model.specs.records.Record.{edge, elements}
 use Rattle.model.specs.ranges.RangePrefix.{PivotLcp, InBetween}
 use Rattle.model.specs.ranges.UpperBound.{raisedAt}
-use Rattle.model.specs.tables.Tables.{PivotTable, EdgeTable, pivotAt, BoundedKey}
+use Rattle.model.specs.tables.Tables.{PivotTable, EdgeTable, pivotAt, BoundedKey, NumBuckets, edgeAt}
+use Rattle.model.specs.cuts.TwoOrders.{TranslatedAlike}
 use Rattle.model.specs.translation.PrefixSet.{PrefixSet}
 use Rattle.model.specs.translation.Translation.{TranslateKey}
 use Rattle.model.specs.translation.Renaming.{TranslatePivots, TranslateEdges}
@@ -20,10 +22,19 @@ use Rattle.model.specs.buckets.Bucket.{Bucket, TranslateBucket, keptFrom}
 abbrev pub NonEmptyLcp : PivotTable → ℕ → Bool
 NonEmptyLcp pt i = not (isNil (PivotLcp (pivotAt pt i) (pivotAt pt (i + 1))))
 
+-- the two lines of WFEdges
+pub record EdgeLines (et : EdgeTable) (pt : PivotTable) : Type 0 where
+  pub count : length et ≡ NumBuckets pt
+  pub nonEmpty : (i : ℕ) (q : Key) → i < length et → edgeAt et i ≡ edge q → NonEmptyLcp pt i ≡ true
+
 -- TranslationPreserved, of keys of any length
 abbrev pub TranslationPreserved : PivotTable → EdgeTable → PivotTable → EdgeTable → Type 0
 TranslationPreserved pt et pt′ et′ =
     (k : Key) → Bytes k → BoundedKey pt′ k ≡ true → (BoundedKey pt k ≡ true) × (TranslateKey pt′ et′ k ≡ TranslateKey pt et k)
+
+-- by p′ and e′ each key that they bound gets the answer and the bytes that p and e give
+abbrev pub PreservedByCalls : List ℕ → List ℕ → List ℕ → List ℕ → Type 0
+PreservedByCalls p e p′ e′ = (j : Key) → Bytes j → BoundedKey (elements p′) j ≡ true → (BoundedKey (elements p) j ≡ true) × TranslatedAlike p e p′ e′ j
 
 -- AllKeysInBetweenHasPrefix, of keys of any length
 abbrev pub AllKeysInBetweenHasPrefix : Element → Element → Key → Type 0

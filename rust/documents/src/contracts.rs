@@ -196,7 +196,7 @@ fn counts(files: &[File]) -> String {
         .collect();
     let of = |wanted: Status| statuses.iter().filter(|status| **status == wanted).count();
     format!(
-        "{COUNTS}{}. Implied by a theorem: {}. Replaced by a theorem: {}. Refusals: {}. Total: {}. Dropped: {}.",
+        "{COUNTS}{}. Implied by a theorem: {}. Replaced by a theorem: {}. Refusals: {}. Total definitions: {}. Dropped: {}.",
         clauses().count(),
         of(Status::Implied),
         of(Status::Replaced),

@@ -40,7 +40,7 @@ const FILES: [(&str, &str); 8] = [
         DOCUMENT,
         r"# Contracts
 
-Clauses: 6. Implied by a theorem: 1. Replaced by a theorem: 1. Refusals: 1. Total: 1. Dropped: 2.
+Clauses: 6. Implied by a theorem: 1. Replaced by a theorem: 1. Refusals: 1. Total definitions: 1. Dropped: 2.
 
 ## Sentences of document 01
 

@@ -152,7 +152,7 @@ fn theorem_twice() {
 fn count_line_differs() {
     let found = check(&with(DOCUMENT, "Dropped: 2.", "Dropped: 3.")).failures;
     let counts =
-        "Clauses: 6. Implied by a theorem: 1. Replaced by a theorem: 1. Refusals: 1. Total: 1.";
+        "Clauses: 6. Implied by a theorem: 1. Replaced by a theorem: 1. Refusals: 1. Total definitions: 1.";
     let says = format!("expected `{counts} Dropped: 2.`, found `{counts} Dropped: 3.`");
     assert_eq!(found, [format!("docs/CONTRACTS.md:3: {says}")]);
 }

@@ -8,15 +8,16 @@ use native.Mathlib.Omega.{arith}
 use lib.ListN.{length, take, drop, length-append, length-drop, List·getD-append}
 use lib.Seq.{length-take-le, getD-take, getD-drop, getD-append-add}
 use Rattle.model.specs.keys.Key.{Key, Bytes}
-use Rattle.model.specs.keys.Order.{max, lt}
+use Rattle.model.specs.keys.Order.{max, lt, lte, key}
 use Rattle.model.specs.records.Record.{edge}
-use Rattle.model.specs.tables.Tables.{PivotTable, EdgeTable, pivotAt, edgeAt, shortElement, WFPivots, BoundedKey, Route}
+use Rattle.model.specs.tables.Tables.{PivotTable, EdgeTable, pivotAt, edgeAt, shortElement, WFPivots, BoundedKey, Route, ContainsRange}
 use Rattle.model.specs.translation.Translation.{TranslateKey}
 use Rattle.model.specs.translation.ParentChild.{ParentKeysInChildRange}
 use Rattle.model.proofs.Lists.{inside-all, le-or-lt}
+use Rattle.model.proofs.keys.Key.{both}
 use Rattle.model.proofs.cuts.Between.{BytesT}
 use Rattle.model.proofs.tables.Places.{sorted-at, sorted-of}
-use Rattle.model.proofs.tables.Routing.{wf-of, wf-sorted, wf-short}
+use Rattle.model.proofs.tables.Routing.{wf-of, wf-sorted, wf-short, route-between, contains-range-bounded}
 use Rattle.model.proofs.translation.ParentChild.{parent-child-bounded}
 
 module _ (pt : PivotTable) (i : ℕ) (h : i < length pt) where
@@ -61,8 +62,18 @@ bounded-pivots-234 pt i w m h =
         (le-or-lt i j)
 
 -- given a key that maps in the parents pivot table (by parentIdx), shows that the key maps in the child as well
--- where the child contains the slot's range, translated
-pub bounded-pivots-385 : (parent : PivotTable) (et : EdgeTable) (child : PivotTable) (slot : ℕ) (k : Key) → WFPivots parent ≡ true → BytesT parent
+-- where the child contains the slot's range
+pub bounded-pivots-385 : (parent child : PivotTable) (parentIdx : ℕ) (k : Key) → WFPivots parent ≡ true → BoundedKey parent k ≡ true → Route parent k ≡ parentIdx
+    → ContainsRange child (pivotAt parent parentIdx) (pivotAt parent (parentIdx + 1)) ≡ true → BoundedKey child k ≡ true
+bounded-pivots-385 parent child parentIdx k w h r c =
+    let left = pivotAt parent parentIdx in
+    let right = pivotAt parent (parentIdx + 1) in
+    let b = both (lte left (key k)) (lt (key k) right) (rw r at (route-between parent k w h)) in
+    contains-range-bounded child left right k c (b .0) (b .1)
+
+-- given a key that maps in the parents pivot table (by parentIdx), shows that the key maps in the child as well
+-- where the child contains the slot's range, translated by its edge: the key then, translated
+pub bounded-pivots-385b : (parent : PivotTable) (et : EdgeTable) (child : PivotTable) (slot : ℕ) (k : Key) → WFPivots parent ≡ true → BytesT parent
     → ((q : Key) → edgeAt et slot ≡ edge q → Bytes q) → ParentKeysInChildRange parent et child slot ≡ true → Bytes k → BoundedKey parent k ≡ true → Route parent k ≡ slot
     → BoundedKey child (TranslateKey parent et k) ≡ true
-bounded-pivots-385 parent et child slot k w t b y c h r = parent-child-bounded parent et child slot w t b y k c h r
+bounded-pivots-385b parent et child slot k w t b y c h r = parent-child-bounded parent et child slot w t b y k c h r

@@ -9,7 +9,7 @@ use Rattle.model.specs.declared.Decided.the-variants as decided
 use Rattle.model.specs.keys.Key.{Key}
 use Rattle.model.specs.keys.Order.{Element, key, max, isKey, lte, same}
 use Rattle.model.specs.records.Record.{elements, encodeAll}
-use Rattle.model.specs.tables.Tables.{PivotTable, NumBuckets, maxPivots, pivotAt, lastPivot, shortElement, ElementsAreKeys, IsStrictlySorted, WFPivots, ContainsAllKeys}
+use Rattle.model.specs.tables.Tables.{PivotTable, maxPivots, pivotAt, lastPivot, shortElement, ElementsAreKeys, WFPivots, ContainsAllKeys}
 use Rattle.model.specs.calls.Refusals.{yesOrNo}
 use Rattle.model.specs.calls.TableCalls.{pivotCauses, containsAllKeysAnswer}
 use Rattle.model.proofs.Lists.{getD-map, all-inside, inside-all}
@@ -17,7 +17,7 @@ use Rattle.model.proofs.keys.Key.{both}
 use Rattle.model.proofs.keys.Order.{lte-refl, lte-antisym}
 use Rattle.model.proofs.tables.Routing.{wf-of, wf-sorted, wf-keys, wf-all-short, wf-count}
 use Rattle.contracts.specs.Refuses.{RefusesAt, Refuses}
-use Rattle.contracts.specs.BoundedPivots.{ElementIsKey, KeysToElements}
+use Rattle.contracts.specs.BoundedPivots.{WFLines, ElementIsKey, KeysToElements}
 use Rattle.contracts.proofs.Refusing.{refuses-at, too-many, call-refuses, pivots-refused}
 use Rattle.contracts.proofs.Lent.{accepted, pivots-read, pivots-lent}
 
@@ -47,13 +47,6 @@ bounded-pivots-47 keys i l = getD-map key keys i max [] l
 pub bounded-pivots-48 : (keys : List Key) → length keys ≡ length (KeysToElements keys)
 unfolding KeysToElements
 bounded-pivots-48 keys = sym (length-map keys key)
-
--- the four lines of WFPivots
-pub record WFLines (pt : PivotTable) : Type 0 where
-  pub sorted : IsStrictlySorted pt ≡ true
-  pub keys : (i : ℕ) → i < NumBuckets pt → isKey (pivotAt pt i) ≡ true
-  pub areKeys : ElementsAreKeys pt ≡ true
-  pub many : 2 ≤ length pt
 
 -- predicate WFPivots(pt: PivotTable)
 pub bounded-pivots-53 : (pt : PivotTable) → (WFPivots pt ≡ true → WFLines pt) × (WFLines pt → WFPivots pt ≡ true)

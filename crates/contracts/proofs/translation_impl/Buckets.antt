@@ -19,7 +19,7 @@ use Rattle.model.specs.calls.Refusals.{outcome, first, over, yesOrNo}
 use Rattle.model.specs.calls.BucketCalls.{bucketCauses, shortEntry, neededBytes, renameCauses, translateBucketCauses, translateBucketAnswer, translateBucketLeaves, willFitAnswer}
 use Rattle.model.proofs.Lists.{le-or-lt}
 use Rattle.model.proofs.calls.TableCalls.{not-too-long}
-use Rattle.model.proofs.calls.BucketCalls.{written-bucket, no-refused, eight-no, ten-no, yes-accepted}
+use Rattle.model.proofs.calls.BucketCalls.{renamed-passes, written-bucket, no-refused, eight-no, ten-no, yes-accepted}
 use Rattle.model.proofs.buckets.Entries.{sizedEntry, entries-encodeBucket}
 use Rattle.model.proofs.buckets.Renamed.{simple-most, simple-next}
 use Rattle.model.proofs.calls.Refusals.{not-fails}
@@ -75,6 +75,11 @@ module _ (l : List ℕ) (p q : Key) (d : List ℕ) where
   pub translation-impl-391b : length d < length (entries l) * entrySize → RefusesAt answers.Refused (translateBucketCauses l p q d) 3 NoRoom (translateBucketAnswer l p q d)
   unfolding bucketCauses neededBytes
   translation-impl-391b h = refuses-at _ _ (translateBucketCauses l p q d) 3 _ _ _ refl (lt-ltb (length d) (length (entries l) * entrySize) h)
+
+  -- ensures mbucket'.Inv()
+  -- what an accepted call leaves passes the check of a bucket
+  pub translation-impl-392 : (n : ℕ) → translateBucketAnswer l p q d ≡ answers.Value n → first (bucketCauses false (take (n * entrySize) (translateBucketLeaves l p q d))) ≡ none
+  translation-impl-392 n h = renamed-passes l p q d n h
 
 -- neither 8 nor 10
 neither : (a : Bool) (m n : ℕ) → not (not a || ltb n m) ≡ (a && leb m n)

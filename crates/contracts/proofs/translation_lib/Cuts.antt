@@ -2,18 +2,18 @@
 use mathlib.Core.Path.{_≡_, refl, sym}
 use mathlib.Core.Bool.{Bool, true, false}
 use mathlib.Core.List.{List, [], _∷_, _++_}
-use Prim.Native.Nat.{ℕ, _+_, _≤_, _<_}
+use Prim.Native.Nat.{ℕ, _+_, _≤_}
 use native.Mathlib.Nat.{add-zero}
 use native.Mathlib.Omega.{arith}
 use lib.ListN.{length, take, drop}
 use Rattle.model.specs.keys.Key.{Key, Bytes, maxLen, changePrefix}
 use Rattle.model.specs.keys.Order.{key}
-use Rattle.model.specs.records.Record.{Edge, edge, noEdge, elements}
+use Rattle.model.specs.records.Record.{Edge, edge, noEdge}
 use Rattle.model.specs.ranges.RangePrefix.{PivotLcp}
-use Rattle.model.specs.tables.Tables.{PivotTable, EdgeTable, NumBuckets, pivotAt, edgeAt, edgeFits, WFPivots, WFEdges, BoundedKey, ValidLeftCutOffKey, CutoffForLeft, CutoffForRight}
+use Rattle.model.specs.tables.Tables.{PivotTable, EdgeTable, pivotAt, edgeAt, edgeFits, WFPivots, WFEdges, BoundedKey, ValidLeftCutOffKey, CutoffForLeft, CutoffForRight}
 use Rattle.model.specs.cuts.Cuts.{SplitLeft, SplitRight, cutEdge, edgeWithin, SplitLeftEdges, SplitRightEdges}
 use Rattle.model.specs.cuts.Sides.{inside, Split, SplitEdges}
-use Rattle.model.specs.cuts.TwoOrders.{Dests, wrote, cut, TranslatedAlike}
+use Rattle.model.specs.cuts.TwoOrders.{Dests, wrote, cut}
 use Rattle.model.proofs.tables.Routing.{wf-count}
 use Rattle.model.proofs.tables.Slots.{wf-says}
 use Rattle.model.proofs.cuts.Between.{BytesT}
@@ -22,12 +22,7 @@ use Rattle.model.proofs.cuts.CutEdges.{slotPrefix, edges-say, say-edges}
 use Rattle.model.proofs.cuts.SplitEdges.{split-left-pivot, split-left-none, split-right-pivot, split-right-none}
 use Rattle.model.proofs.cuts.Sides.{split-wf, split-bounded, split-edges-wf, split-preserved}
 use Rattle.model.proofs.cuts.AcceptedCuts.{cut-bounded-bytes, cut-preserved-bytes}
-use Rattle.contracts.specs.Translation.{NonEmptyLcp, TranslationPreserved}
-
--- the two lines of WFEdges
-pub record EdgeLines (et : EdgeTable) (pt : PivotTable) : Type 0 where
-  pub count : length et ≡ NumBuckets pt
-  pub nonEmpty : (i : ℕ) (q : Key) → i < length et → edgeAt et i ≡ edge q → NonEmptyLcp pt i ≡ true
+use Rattle.contracts.specs.Translation.{EdgeLines, PreservedByCalls, NonEmptyLcp, TranslationPreserved}
 
 -- predicate WFEdges(et: EdgeTable, pt: PivotTable)
 pub translation-lib-36 : (et : EdgeTable) (pt : PivotTable) → WFPivots pt ≡ true
@@ -64,10 +59,6 @@ module _ (left : Bool) (pt : PivotTable) (k : Key) (w : WFPivots pt ≡ true) (v
 
     preserved : TranslationPreserved pt et (Split left pt k) (SplitEdges left et pt k)
     preserved j d h = (split-bounded pt k w left v j h, split-preserved pt k w b c et x left v j d h)
-
--- by p′ and e′ each key that they bound gets the answer and the bytes that p and e give
-abbrev pub PreservedByCalls : List ℕ → List ℕ → List ℕ → List ℕ → Type 0
-PreservedByCalls p e p′ e′ = (j : Key) → Bytes j → BoundedKey (elements p′) j ≡ true → (BoundedKey (elements p) j ≡ true) × TranslatedAlike p e p′ e′ j
 
 preserved-by-calls : (left : Bool) (k : Key) (d : Dests) (p e : List ℕ) (n : ℕ) (p′ e′ : List ℕ) → cut left k d p e ≡ wrote n p′ e′ → Bytes p → Bytes k
     → PreservedByCalls p e p′ e′
