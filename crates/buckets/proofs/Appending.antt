@@ -17,13 +17,13 @@ use Rattle.model.specs.declared.Answer.the-variants.{Value, Refused}
 use Rattle.model.specs.keys.Key.{Key}
 use Rattle.model.specs.records.Record.{joined}
 use Rattle.model.specs.tables.Tables.{all}
-use Rattle.model.specs.buckets.Bucket.{Bucket, entrySize, entries, encodeEntry, encodeBucket}
+use Rattle.model.specs.buckets.Bucket.{Bucket, entrySize, entries, encodeEntry, encodeBucket, sizedEntry}
 use Rattle.model.specs.calls.Refusals.{first, over}
 use Rattle.model.specs.calls.BucketCalls.{newBucket, shortEntry, neededBytes, bucketLong, bucketFull, renameCauses, translateBucketCauses, translateBucketAnswer}
 use Rattle.model.proofs.Lists.{rest, lent-on, over-append, length-over, all-append, le-or-lt}
 use Rattle.model.proofs.keys.Key.{both}
 use Rattle.model.proofs.records.Records.{joined-append}
-use Rattle.model.proofs.buckets.Entries.{sizedEntry, length-encodeBucket}
+use Rattle.model.proofs.buckets.Entries.{length-encodeBucket}
 use Rattle.model.proofs.buckets.Bucket.{translated-wft}
 use Rattle.model.proofs.calls.Refusals.{passed, none-here, none-later, none-before, none-after}
 use Rattle.model.proofs.calls.BucketCalls.{bucket-most, bucket-sized, renamed-reads, renamed-passes}

@@ -13,11 +13,11 @@ use Rattle.model.specs.declared.Answer.the-variants.{Value, Refused}
 use Rattle.model.specs.keys.Key.{Key, maxLen, IsPrefix, changePrefix}
 use Rattle.model.specs.records.Record.{joined}
 use Rattle.model.specs.tables.Tables.{all}
-use Rattle.model.specs.buckets.Bucket.{entrySize, entryOf, encodeEntry, encodeBucket, translateEntry, TranslateBucket}
+use Rattle.model.specs.buckets.Bucket.{entrySize, entryOf, encodeEntry, encodeBucket, translateEntry, TranslateBucket, sizedEntry}
 use Rattle.model.specs.calls.Refusals.{outcome, answer, over}
 use Rattle.model.specs.calls.BucketCalls.{shortEntry}
 use Rattle.model.proofs.keys.Key.{both, prefix-length, length-change}
-use Rattle.model.proofs.buckets.Entries.{sizedEntry, sized, entry-sized, length-entry}
+use Rattle.model.proofs.buckets.Entries.{sized, entry-sized, length-entry}
 use Rattle.buckets.specs.Kept.{Checked, keptOf, keptBytes, longCauses}
 
 -- the key of a checked entry has at most 64 bytes

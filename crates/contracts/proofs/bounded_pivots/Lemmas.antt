@@ -10,12 +10,11 @@ use lib.Seq.{length-take-le, getD-take, getD-drop, getD-append-add}
 use Rattle.model.specs.keys.Key.{Key, Bytes}
 use Rattle.model.specs.keys.Order.{max, lt, lte, key}
 use Rattle.model.specs.records.Record.{edge}
-use Rattle.model.specs.tables.Tables.{PivotTable, EdgeTable, pivotAt, edgeAt, shortElement, WFPivots, BoundedKey, Route, ContainsRange}
+use Rattle.model.specs.tables.Tables.{PivotTable, EdgeTable, pivotAt, edgeAt, shortElement, WFPivots, BoundedKey, Route, ContainsRange, BytesT}
 use Rattle.model.specs.translation.Translation.{TranslateKey}
 use Rattle.model.specs.translation.ParentChild.{ParentKeysInChildRange}
 use Rattle.model.proofs.Lists.{inside-all, le-or-lt}
 use Rattle.model.proofs.keys.Key.{both}
-use Rattle.model.proofs.cuts.Between.{BytesT}
 use Rattle.model.proofs.tables.Places.{sorted-at, sorted-of}
 use Rattle.model.proofs.tables.Routing.{wf-of, wf-sorted, wf-short, route-between, contains-range-bounded}
 use Rattle.model.proofs.translation.ParentChild.{parent-child-bounded}

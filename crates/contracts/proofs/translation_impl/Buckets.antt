@@ -14,13 +14,13 @@ use Rattle.model.specs.declared.Answer.the-variants as answers
 use Rattle.model.specs.declared.Decided.the-variants as decided
 use Rattle.model.specs.keys.Key.{Key, maxLen, IsPrefix}
 use Rattle.model.specs.tables.Tables.{all}
-use Rattle.model.specs.buckets.Bucket.{Entry, Bucket, entrySize, maxEntries, entries, encodeBucket, translateEntry, TranslateBucket}
+use Rattle.model.specs.buckets.Bucket.{Entry, Bucket, entrySize, maxEntries, entries, encodeBucket, translateEntry, TranslateBucket, sizedEntry}
 use Rattle.model.specs.calls.Refusals.{outcome, first, over, yesOrNo}
 use Rattle.model.specs.calls.BucketCalls.{bucketCauses, shortEntry, neededBytes, renameCauses, translateBucketCauses, translateBucketAnswer, translateBucketLeaves, willFitAnswer}
 use Rattle.model.proofs.Lists.{le-or-lt}
 use Rattle.model.proofs.calls.TableCalls.{not-too-long}
 use Rattle.model.proofs.calls.BucketCalls.{renamed-passes, written-bucket, no-refused, eight-no, ten-no, yes-accepted}
-use Rattle.model.proofs.buckets.Entries.{sizedEntry, entries-encodeBucket}
+use Rattle.model.proofs.buckets.Entries.{entries-encodeBucket}
 use Rattle.model.proofs.buckets.Renamed.{simple-most, simple-next}
 use Rattle.model.proofs.calls.Refusals.{not-fails}
 use Rattle.contracts.specs.Refuses.{RefusesAt}

@@ -10,15 +10,14 @@ use Rattle.model.specs.keys.Key.{Key, Bytes, maxLen, changePrefix}
 use Rattle.model.specs.keys.Order.{key}
 use Rattle.model.specs.records.Record.{Edge, edge, noEdge}
 use Rattle.model.specs.ranges.RangePrefix.{PivotLcp}
-use Rattle.model.specs.tables.Tables.{PivotTable, EdgeTable, pivotAt, edgeAt, edgeFits, WFPivots, WFEdges, BoundedKey, ValidLeftCutOffKey, CutoffForLeft, CutoffForRight}
+use Rattle.model.specs.tables.Tables.{PivotTable, EdgeTable, pivotAt, edgeAt, edgeFits, WFPivots, WFEdges, BoundedKey, ValidLeftCutOffKey, CutoffForLeft, CutoffForRight, BytesT, slotPrefix}
 use Rattle.model.specs.cuts.Cuts.{SplitLeft, SplitRight, cutEdge, edgeWithin, SplitLeftEdges, SplitRightEdges}
 use Rattle.model.specs.cuts.Sides.{inside, Split, SplitEdges}
 use Rattle.model.specs.cuts.TwoOrders.{Dests, wrote, cut}
 use Rattle.model.proofs.tables.Routing.{wf-count}
 use Rattle.model.proofs.tables.Slots.{wf-says}
-use Rattle.model.proofs.cuts.Between.{BytesT}
 use Rattle.model.proofs.cuts.Cuts.{left-at, left-end, right-at, split-right-first}
-use Rattle.model.proofs.cuts.CutEdges.{slotPrefix, edges-say, say-edges}
+use Rattle.model.proofs.cuts.CutEdges.{edges-say, say-edges}
 use Rattle.model.proofs.cuts.SplitEdges.{split-left-pivot, split-left-none, split-right-pivot, split-right-none}
 use Rattle.model.proofs.cuts.Sides.{split-wf, split-bounded, split-edges-wf, split-preserved}
 use Rattle.model.proofs.cuts.AcceptedCuts.{cut-bounded-bytes, cut-preserved-bytes}

@@ -13,18 +13,17 @@ use Rattle.model.specs.keys.Order.{Element, key, max, isKey, lt}
 use Rattle.model.specs.records.Record.{edge, noEdge}
 use Rattle.model.specs.ranges.RangePrefix.{PivotLcp}
 use Rattle.model.specs.ranges.UpperBound.{ShortestUncommonPrefix}
-use Rattle.model.specs.tables.Tables.{PivotTable, EdgeTable, NumBuckets, pivotAt, edgeAt, keyOf, shortElement, WFPivots, ContainsRange}
-use Rattle.model.specs.translation.Renaming.{TranslateElement, translateRight, TranslatePivotPairInternal}
+use Rattle.model.specs.tables.Tables.{PivotTable, EdgeTable, NumBuckets, pivotAt, edgeAt, keyOf, shortElement, WFPivots, ContainsRange, BytesT, slotPrefix}
+use Rattle.model.specs.translation.Renaming.{TranslateElement, translateRight, TranslatePivotPairInternal, Lacks, isMax, other}
 use Rattle.model.specs.translation.ParentChild.{slotBounds, boundsUnder, ParentKeysInChildRange}
 use Rattle.model.specs.calls.RenamingCalls.{newBounds, pivotPairAnswer, pivotPairCauses}
 use Rattle.model.proofs.keys.ChangePrefix.{change-begins}
 use Rattle.model.proofs.ranges.RangePrefix.{prefix-of-left}
 use Rattle.model.proofs.tables.Places.{sorted-at}
 use Rattle.model.proofs.tables.Routing.{wf-sorted, wf-keys}
-use Rattle.model.proofs.cuts.Between.{BytesT, bytes-at}
-use Rattle.model.proofs.cuts.CutEdges.{slotPrefix}
+use Rattle.model.proofs.cuts.Between.{bytes-at}
 use Rattle.model.proofs.translation.ParentChild.{parent-child-none}
-use Rattle.model.proofs.translation.PivotPair.{element-short, Lacks, isMax, other, right-short, pair-rises, pair-shares}
+use Rattle.model.proofs.translation.PivotPair.{element-short, right-short, pair-rises, pair-shares}
 use Rattle.contracts.specs.Refuses.{RefusesAt}
 use Rattle.contracts.specs.BoundedPivots.{ElementIsKey}
 use Rattle.contracts.specs.Translation.{AllKeysInBetweenHasPrefix, ShortestUncommonPrefixAt}

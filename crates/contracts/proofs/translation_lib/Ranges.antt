@@ -10,10 +10,10 @@ use borrow.Author.Tests.{le-leb, lt-ltb, le-ltb, eqb-true, eqb-false, eq-eqb}
 use lib.Dec.{eqb, ltb}
 use lib.ListN.{length, take, getD}
 use Rattle.model.specs.keys.Key.{Key, Bytes, maxLen, IsPrefix}
-use Rattle.model.specs.keys.Order.{Element, key, max, lteKey, lte, lt}
+use Rattle.model.specs.keys.Order.{Element, key, max, lteKey, lte, lt, BytesE}
 use Rattle.model.specs.ranges.RangePrefix.{lcpright, lcp, PivotLcp, InBetween}
 use Rattle.model.specs.ranges.UpperBound.{uncommonFrom, ShortestUncommonPrefix}
-use Rattle.model.proofs.ranges.RangePrefix.{BytesE, prefix-of-left, prefix-not-above, shared, longest}
+use Rattle.model.proofs.ranges.RangePrefix.{prefix-of-left, prefix-not-above, shared, longest}
 use Rattle.model.proofs.ranges.UpperBound.{upper-lcp, upper-above, upper-nonempty, upper-short, upper-front, upper-last}
 use Rattle.contracts.specs.BoundedPivots.{ElementIsKey}
 use Rattle.contracts.specs.Translation.{AllKeysInBetweenHasPrefix, ShortestUncommonPrefixAt}

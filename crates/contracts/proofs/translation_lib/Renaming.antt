@@ -15,13 +15,13 @@ use Rattle.model.specs.keys.Key.{Key, IsPrefix}
 use Rattle.model.specs.keys.Order.{Element, max, isKey, lt}
 use Rattle.model.specs.records.Record.{Edge, edge, noEdge, recordSize, elements}
 use Rattle.model.specs.ranges.RangePrefix.{PivotLcp}
-use Rattle.model.specs.tables.Tables.{PivotTable, EdgeTable, NumBuckets, pivotAt, edgeAt, lastPivot, keyOf, ElementsAreKeys, IsStrictlySorted, WFPivots, WFEdges}
+use Rattle.model.specs.tables.Tables.{PivotTable, EdgeTable, NumBuckets, pivotAt, edgeAt, lastPivot, keyOf, ElementsAreKeys, IsStrictlySorted, WFPivots, WFEdges, slotPrefix}
 use Rattle.model.specs.translation.Renaming.{TranslateElement, TranslatePivots, filled, edgesFrom, TranslateEdges}
 use Rattle.model.specs.calls.TableCalls.{wfPivotsAnswer}
 use Rattle.model.specs.calls.RenamingCalls.{newPivots, pivotsAnswer, pivotsLeaves, pivotsCauses}
 use Rattle.model.proofs.tables.Places.{sorted-tail}
 use Rattle.model.proofs.tables.Routing.{wf-of}
-use Rattle.model.proofs.cuts.CutEdges.{slotPrefix, edges-say}
+use Rattle.model.proofs.cuts.CutEdges.{edges-say}
 use Rattle.model.proofs.translation.Renaming.{pivots-count, pivots-last, pivots-keys, pivots-begin, pivots-back, pivots-rise, pivots-from, edges-count, edges-kept, edges-filled, edges-from}
 use Rattle.model.proofs.calls.TableCalls.{causes-wf}
 use Rattle.model.proofs.calls.RenamingCalls.{pivots-read, pivots-pass}

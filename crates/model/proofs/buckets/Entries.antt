@@ -1,6 +1,6 @@
 -- Entries and buckets as bytes: what is written reads back.
 use mathlib.Core.Path.{_≡_, refl}
-use mathlib.Core.Bool.{Bool, true, _&&_, false≢true}
+use mathlib.Core.Bool.{true, _&&_, false≢true}
 use mathlib.Core.List.{List, _++_}
 use Prim.Native.Nat.{ℕ, _*_, _≤_}
 use native.Mathlib.Omega.{arith}
@@ -13,7 +13,7 @@ use Rattle.model.specs.declared.Reading.the-variants as reads
 use Rattle.model.specs.keys.Key.{Bytes, maxLen}
 use Rattle.model.specs.records.Record.{recordSize, recordOf, reading, keyReading, keyBytes}
 use Rattle.model.specs.tables.Tables.{all}
-use Rattle.model.specs.buckets.Bucket.{Entry, Bucket, numberSize, entrySize, entryRecord, entryOf, encodeEntry, entryBytes, entries, encodeBucket}
+use Rattle.model.specs.buckets.Bucket.{Entry, Bucket, numberSize, entrySize, entryRecord, entryOf, encodeEntry, entryBytes, entries, encodeBucket, sizedEntry}
 use Rattle.model.proofs.keys.Key.{both, bytes-take}
 use Rattle.model.proofs.records.Record.{key-read, key-record, length-record, bytes-record}
 use Rattle.model.proofs.records.Records.{length-joined, read-joined}
@@ -25,10 +25,6 @@ entry-encode e h k =
     let r = recordOf (length (e .key)) (e .key) in
     let w = length-record (length (e .key)) (e .key) h in
     rw (take-at r (e .number) recordSize w, drop-at r (e .number) recordSize w, bytes-record)
-
--- a key of at most 64 bytes and a number of four
-abbrev pub sizedEntry : Entry → Bool
-sizedEntry e = leb (length (e .key)) maxLen && eqb (length (e .number)) numberSize
 
 module _ (e : Entry) (h : sizedEntry e ≡ true) where
   pub sized : (length (e .key) ≤ maxLen) × (length (e .number) ≡ numberSize)

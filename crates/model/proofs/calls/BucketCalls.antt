@@ -19,7 +19,7 @@ use Rattle.model.specs.declared.Decided.the-variants as decided
 use Rattle.model.specs.keys.Key.{Key, Bytes, maxLen, tooLong, IsPrefix}
 use Rattle.model.specs.records.Record.{recordSize, recordOf, reading, keyReading, encode, pieces}
 use Rattle.model.specs.tables.Tables.{all}
-use Rattle.model.specs.buckets.Bucket.{Entry, Bucket, numberSize, entrySize, maxEntries, entryRecord, entryOf, entryBytes, entries, encodeEntry, encodeBucket, translateEntry, TranslateBucket}
+use Rattle.model.specs.buckets.Bucket.{Entry, Bucket, numberSize, entrySize, maxEntries, entryRecord, entryOf, entryBytes, entries, encodeEntry, encodeBucket, translateEntry, TranslateBucket, sizedEntry}
 use Rattle.model.specs.calls.Refusals.{outcome, first, yesOrNo, over}
 use Rattle.model.specs.calls.BucketCalls.{notEntryCount, entriesRead, bucketCauses, newBucket, shortEntry, bucketLong, bucketFull, renameCauses}
 use Rattle.model.specs.calls.BucketCalls.{translateBucketCauses, translateBucketAnswer, translateBucketLeaves, willFitAnswer}
@@ -27,7 +27,7 @@ use Rattle.model.proofs.Lists.{take-over, all-map}
 use Rattle.model.proofs.keys.Key.{both}
 use Rattle.model.proofs.records.Record.{length-record, reading-key}
 use Rattle.model.proofs.records.Records.{length-pieces, joined-read}
-use Rattle.model.proofs.buckets.Entries.{sizedEntry, sized, length-entry, length-encodeBucket, entries-encodeBucket, encode-entry, entry-sized}
+use Rattle.model.proofs.buckets.Entries.{sized, length-entry, length-encodeBucket, entries-encodeBucket, encode-entry, entry-sized}
 use Rattle.model.proofs.buckets.Bucket.{translated-wft}
 use Rattle.model.proofs.calls.Refusals.{passed, accepted, value-is, none-here, none-later, none-before, none-after}
 use Rattle.model.proofs.calls.TableCalls.{either-fails}

@@ -12,12 +12,12 @@ use lib.ListN.{length, take, drop, length-append, length-drop}
 use lib.Seq.{length-take-le}
 use Rattle.model.specs.declared.Refusal.the-variants.{OutOfRange}
 use Rattle.model.specs.keys.Key.{Key, Bytes, maxLen, IsPrefix, tooLong}
-use Rattle.model.specs.keys.Order.{key}
+use Rattle.model.specs.keys.Order.{key, BytesE}
 use Rattle.model.specs.records.Record.{noEdge, recordSize, keyBytes, element, edgeOf, recordOf, encode, encodeEdge, joined}
 use Rattle.model.specs.records.Record.{elements, edges, encodeAll, encodeEdges}
 use Rattle.model.specs.inner.Places.{recordAt}
 use Rattle.model.specs.ranges.RangePrefix.{PivotLcp}
-use Rattle.model.specs.tables.Tables.{PivotTable, EdgeTable, maxPivots, pivotAt, edgeAt, all, shortElement, shortEdge, WFPivots}
+use Rattle.model.specs.tables.Tables.{PivotTable, EdgeTable, maxPivots, pivotAt, edgeAt, all, shortElement, shortEdge, WFPivots, BytesT, slotPrefix}
 use Rattle.model.specs.cuts.Cuts.{SplitLeft, SplitRight, SplitLeftEdges, SplitRightEdges}
 use Rattle.model.specs.cuts.Sides.{inside, cutoff, Split, SplitEdges}
 use Rattle.model.specs.inner.CutSlot.{cutFrom, cutUpto, cutSlotEdge, keptPart, beside, edgePlace}
@@ -29,16 +29,15 @@ use Rattle.model.proofs.Lists.{all-at, all-append, all-parts}
 use Rattle.model.proofs.calls.Refusals.{none-here, none-before, none-after}
 use Rattle.model.proofs.records.Record.{length-encode, length-encodeEdge}
 use Rattle.model.proofs.records.Records.{joined-append, joined-take, joined-drop}
-use Rattle.model.proofs.ranges.RangePrefix.{BytesE}
 use Rattle.model.proofs.tables.Routing.{wf-keys, wf-short, wf-all-short}
 use Rattle.model.proofs.calls.TableCalls.{length-elements, length-edges, element-at, edge-at}
 use Rattle.model.proofs.calls.TableCalls.{table-wf, table-most, table-whole, table-count, table-edges-whole, table-edges-short, wrong-key}
 use Rattle.model.proofs.calls.TableCalls.{table-bytes, table-encode, table-encode-edges}
 use Rattle.model.proofs.calls.PivotKeys.{key-element}
-use Rattle.model.proofs.cuts.Between.{BytesT, bytes-at}
+use Rattle.model.proofs.cuts.Between.{bytes-at}
 use Rattle.model.proofs.tables.Slots.{Table, wf-says, Inside}
 use Rattle.model.proofs.cuts.Cuts.{left-slot, right-slot}
-use Rattle.model.proofs.cuts.CutEdges.{slotPrefix, inside-narrows}
+use Rattle.model.proofs.cuts.CutEdges.{inside-narrows}
 use Rattle.model.proofs.cuts.Preserved.{begins}
 
 -- ---- what a cut makes of a list

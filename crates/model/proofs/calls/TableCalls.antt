@@ -14,18 +14,16 @@ use Rattle.model.specs.declared.Answer.{Answer}
 use Rattle.model.specs.declared.Answer.the-variants as answers
 use Rattle.model.specs.declared.Refusal.the-variants.{Shape, Malformed, Unsorted, EmptyPrefix}
 use Rattle.model.specs.keys.Key.{Key, Bytes, isNil, maxLen, tooLong}
-use Rattle.model.specs.keys.Order.{key, max}
+use Rattle.model.specs.keys.Order.{key, max, BytesE}
 use Rattle.model.specs.records.Record.{recordSize, element, edgeOf, pieces, records, elements, edges, encodeAll, encodeEdges}
 use Rattle.model.specs.inner.Places.{recordAt}
 use Rattle.model.specs.records.Record.{maxMark, lengthField, keyBytes, reading, keyReading, elementReading}
-use Rattle.model.specs.tables.Tables.{minPivots, maxPivots, pivotAt, edgeAt, all, shortElement, shortEdge, IsStrictlySorted, WFPivots, WFEdges}
+use Rattle.model.specs.tables.Tables.{minPivots, maxPivots, pivotAt, edgeAt, all, shortElement, shortEdge, IsStrictlySorted, WFPivots, WFEdges, BytesT}
 use Rattle.model.specs.calls.TableCalls.{notPivotCount, notEdgeCount, pivotsRead, edgesRead, edgesStand, pivotCauses, tableCauses}
 use Rattle.model.specs.calls.Refusals.{outcome, first, answer}
-use Rattle.model.proofs.cuts.Between.{BytesT}
 use Rattle.model.proofs.calls.Refusals.{none-here, none-later, none-before, none-after, accepted}
 use Rattle.model.proofs.Lists.{getD-map, all-map}
 use Rattle.model.proofs.keys.Key.{both, bytes-take, bytes-drop}
-use Rattle.model.proofs.ranges.RangePrefix.{BytesE}
 use Rattle.model.proofs.records.Record.{short-element, short-edge}
 use Rattle.model.proofs.records.Records.{length-pieces, encodeAll-elements, encodeEdges-edges}
 use Rattle.model.proofs.tables.Routing.{wf-of}

@@ -9,18 +9,16 @@ use borrow.Author.Tests.{leb-true, le-leb, eq-eqb}
 use lib.ListN.{length}
 use lib.Seq.{take-at, drop-at}
 use Rattle.model.specs.keys.Key.{Key, Bytes, maxLen}
-use Rattle.model.specs.keys.Order.{Element, key, max, lt}
+use Rattle.model.specs.keys.Order.{Element, key, max, lt, BytesE}
 use Rattle.model.specs.records.Record.{Edge, edge, noEdge, recordSize, reading, keyReading, elementReading, edgeReading}
 use Rattle.model.specs.records.Record.{pieces, joined, records, maxMark, zeros, recordOf, encode, encodeEdge, encodeAll, encodeEdges}
-use Rattle.model.specs.tables.Tables.{PivotTable, EdgeTable, minPivots, maxPivots, all, shortElement, shortEdge, IsStrictlySorted, WFPivots, WFEdges}
+use Rattle.model.specs.tables.Tables.{PivotTable, EdgeTable, minPivots, maxPivots, all, shortElement, shortEdge, IsStrictlySorted, WFPivots, WFEdges, BytesT}
 use Rattle.model.specs.calls.Refusals.{outcome, first}
 use Rattle.model.specs.calls.TableCalls.{notPivotCount, notEdgeCount, pivotsRead, edgesRead, pivotCauses, tableCauses}
 use Rattle.model.proofs.calls.Refusals.{after}
 use Rattle.model.proofs.keys.Order.{below-key}
 use Rattle.model.proofs.tables.Places.{sorted-head, sorted-tail}
 use Rattle.model.proofs.keys.Key.{both, bytes-append}
-use Rattle.model.proofs.ranges.RangePrefix.{BytesE}
-use Rattle.model.proofs.cuts.Between.{BytesT}
 use Rattle.model.proofs.records.Record.{reading-key, reading-max, reading-noEdge, length-encode, length-encodeEdge}
 use Rattle.model.proofs.records.Records.{length-encodeAll, length-encodeEdges, elements-encodeAll, edges-encodeEdges}
 use Rattle.model.proofs.tables.Routing.{wf-sorted, wf-count, wf-all-short}

@@ -8,18 +8,12 @@ use borrow.Author.Tests.{lt-ltb}
 use lib.Dec.{ltb}
 use lib.ListN.{length, take, drop}
 use lib.Seq.{take-nil, drop-nil}
-use Rattle.model.specs.keys.Order.{Element, max, lte, lt, passes, lastPlace}
-use Rattle.model.specs.tables.Tables.{PivotTable, pivotAt, all, risesFrom, IsStrictlySorted}
+use Rattle.model.specs.keys.Order.{Element, max, lte, lt, passes, lastPlace, BytesE}
+use Rattle.model.specs.tables.Tables.{PivotTable, pivotAt, all, risesFrom, IsStrictlySorted, BytesT}
 use Rattle.model.specs.cuts.Cuts.{strictlyBetween}
 use Rattle.model.proofs.keys.Order.{lt-lte, lt-trans-lte, lte-trans-lt}
 use Rattle.model.proofs.keys.Key.{both}
-use Rattle.model.proofs.ranges.RangePrefix.{BytesE}
 use Rattle.model.proofs.tables.Places.{place-is, passes-up, sorted-tail, sorted-lte}
-
--- pivots made of bytes
-abbrev pub BytesT : PivotTable → Type 0
-BytesT [] = Unit {0}
-BytesT (p ∷ pt) = BytesE p × BytesT pt
 
 -- each pivot is then of bytes
 pub bytes-at : (pt : PivotTable) (i : ℕ) → BytesT pt → BytesE (pivotAt pt i)

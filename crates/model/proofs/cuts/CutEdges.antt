@@ -10,14 +10,14 @@ use lib.Dec.{eqb}
 use lib.ListN.{length}
 use lib.Seq.{drop-length, ext-getD}
 use Rattle.model.specs.keys.Key.{Key, maxLen, IsPrefix, changePrefix}
-use Rattle.model.specs.keys.Order.{Element, lt, LargestLte}
+use Rattle.model.specs.keys.Order.{Element, lt, LargestLte, BytesE}
 use Rattle.model.specs.records.Record.{Edge, edge, noEdge}
 use Rattle.model.specs.ranges.RangePrefix.{PivotLcp}
-use Rattle.model.specs.tables.Tables.{PivotTable, EdgeTable, shortEdge, pivotAt, edgeAt, edgeFits, edgesFit, WFEdges}
+use Rattle.model.specs.tables.Tables.{PivotTable, EdgeTable, shortEdge, pivotAt, edgeAt, edgeFits, edgesFit, WFEdges, BytesT, slotPrefix}
 use Rattle.model.specs.cuts.Cuts.{cutEdge, edgeWithin, strictlyBetween, plainEdgesFrom}
 use Rattle.model.proofs.keys.Key.{both, beyond-trans, length-change}
-use Rattle.model.proofs.ranges.RangePrefix.{BytesE, narrows}
-use Rattle.model.proofs.cuts.Between.{BytesT, bytes-at, Within}
+use Rattle.model.proofs.ranges.RangePrefix.{narrows}
+use Rattle.model.proofs.cuts.Between.{bytes-at, Within}
 use Rattle.model.proofs.tables.Slots.{Inside, inside-within, inside-left}
 use Rattle.model.proofs.cuts.Ranges.{cutTo, Spans, cut-bytes, cut-cut, cut-spans, cut-inside}
 
@@ -57,10 +57,6 @@ edge-short p q (edge x) h =
 edge-short p q noEdge h = refl
 
 -- ---- the edges of well-formed tables
-
--- the prefix of a slot's range
-abbrev pub slotPrefix : PivotTable → ℕ → Key
-slotPrefix pt i = PivotLcp (pivotAt pt i) (pivotAt pt (i + 1))
 
 -- what WFEdges says
 pub record Fit (et : EdgeTable) (pt : PivotTable) : Type 0 where

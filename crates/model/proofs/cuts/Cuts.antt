@@ -9,13 +9,13 @@ use lib.ListN.{length, take, drop, getD, length-append, length-drop, List·getD-
 use lib.Seq.{take-suc, take-all, drop-append-le, length-take-le, getD-take, getD-drop, getD-at}
 use Rattle.model.specs.keys.Key.{Key, Bytes, maxLen}
 use Rattle.model.specs.keys.Order.{key, max, lte, lt, LargestLte}
-use Rattle.model.specs.tables.Tables.{PivotTable, NumBuckets, pivotAt, lastPivot, shortElement, WFPivots}
+use Rattle.model.specs.tables.Tables.{PivotTable, NumBuckets, pivotAt, lastPivot, shortElement, WFPivots, BytesT}
 use Rattle.model.specs.tables.Tables.{BoundedKey, ValidLeftCutOffKey, Route, CutoffForLeft, CutoffForRight}
 use Rattle.model.specs.cuts.Cuts.{SplitLeft, SplitRight}
 use Rattle.model.proofs.Lists.{all-at}
 use Rattle.model.proofs.keys.Order.{lte-refl, lte-trans, lt-trans-lte}
 use Rattle.model.proofs.keys.Key.{both}
-use Rattle.model.proofs.cuts.Between.{BytesT, bytes-at}
+use Rattle.model.proofs.cuts.Between.{bytes-at}
 use Rattle.model.proofs.tables.Slots.{Table, wf-says, says-wf, Inside, inside-left, between-inside, slot-itself, slot-from, slot-upto}
 use Rattle.model.proofs.cuts.Ranges.{cutTo, Spans, cut-first, cut-last, cut-bounded, cut-bytes, cut-table, cut-slot, cut-route, cut-wf}
 

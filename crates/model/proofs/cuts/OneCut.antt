@@ -12,7 +12,7 @@ use Rattle.model.specs.declared.Refusal.the-variants.{TooLong, NoRoom}
 use Rattle.model.specs.declared.Answer.the-variants as answers
 use Rattle.model.specs.keys.Key.{Key, Bytes, maxLen}
 use Rattle.model.specs.records.Record.{recordSize, elements, edges, encodeAll, encodeEdges}
-use Rattle.model.specs.tables.Tables.{PivotTable, EdgeTable, all, shortEdge, WFPivots, WFEdges, BoundedKey}
+use Rattle.model.specs.tables.Tables.{PivotTable, EdgeTable, all, shortEdge, WFPivots, WFEdges, BoundedKey, BytesT}
 use Rattle.model.specs.cuts.Sides.{inside}
 use Rattle.model.specs.calls.Refusals.{Cause, outcome, first, answer, leaves, over}
 use Rattle.model.specs.calls.KeyCalls.{noRoom}
@@ -22,7 +22,6 @@ use Rattle.model.specs.calls.TableCalls.{edgeSlotCauses}
 use Rattle.model.specs.cuts.TwoOrders.{Dests, End, wrote, refused, endOf, cut, TranslatedAlike}
 use Rattle.model.proofs.Lists.{take-over}
 use Rattle.model.proofs.calls.Refusals.{refused-by, passed, after}
-use Rattle.model.proofs.cuts.Between.{BytesT}
 use Rattle.model.proofs.tables.Routing.{wf-all-short}
 use Rattle.model.proofs.records.Records.{length-encodeAll, length-encodeEdges, elements-encodeAll, edges-encodeEdges}
 use Rattle.model.proofs.cuts.CutEdges.{edges-say}

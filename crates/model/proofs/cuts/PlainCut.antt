@@ -7,12 +7,12 @@ use borrow.Author.Tests.{le-leb}
 use lib.ListN.{length}
 use Rattle.model.specs.keys.Key.{Key, Bytes, maxLen}
 use Rattle.model.specs.keys.Order.{key, lte, lt}
-use Rattle.model.specs.tables.Tables.{PivotTable, EdgeTable, NumBuckets, pivotAt, lastPivot, all, shortEdge, WFPivots, WFEdges}
+use Rattle.model.specs.tables.Tables.{PivotTable, EdgeTable, NumBuckets, pivotAt, lastPivot, all, shortEdge, WFPivots, WFEdges, BytesT}
 use Rattle.model.specs.tables.Tables.{BoundedKey, ValidLeftCutOffKey, CutoffForLeft}
 use Rattle.model.specs.cuts.Cuts.{SplitLeft, SplitRight, plainCut, SplitLeftEdges, SplitRightEdges, plainCutEdges}
 use Rattle.model.specs.translation.Translation.{TranslateKey}
 use Rattle.model.proofs.keys.Order.{lte-refl, lt-trans-lte, lte-trans-lt}
-use Rattle.model.proofs.cuts.Between.{BytesT, bytes-at, Within}
+use Rattle.model.proofs.cuts.Between.{bytes-at, Within}
 use Rattle.model.proofs.tables.Slots.{Table, wf-says, says-wf}
 use Rattle.model.proofs.cuts.Ranges.{cutTo, Spans, cut-cut, cut-bounded, cut-bytes, cut-wf}
 use Rattle.model.proofs.cuts.Cuts.{left-spans, left-slot, left-is-cut, left-table, left-length}

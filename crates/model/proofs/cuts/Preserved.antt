@@ -5,15 +5,15 @@ use mathlib.Core.Option.{some, Option·some-injective}
 use Prim.Native.Nat.{_+_}
 use lib.ListN.{length}
 use Rattle.model.specs.keys.Key.{Key, Bytes, IsPrefix}
-use Rattle.model.specs.keys.Order.{Element, key, max, lte, lt}
+use Rattle.model.specs.keys.Order.{Element, key, max, lte, lt, BytesE}
 use Rattle.model.specs.records.Record.{Edge, edge, noEdge}
 use Rattle.model.specs.ranges.RangePrefix.{PivotLcp}
-use Rattle.model.specs.tables.Tables.{PivotTable, EdgeTable, NumBuckets, pivotAt, edgeAt, WFPivots, WFEdges, BoundedKey, ValidLeftCutOffKey, Route}
+use Rattle.model.specs.tables.Tables.{PivotTable, EdgeTable, NumBuckets, pivotAt, edgeAt, WFPivots, WFEdges, BoundedKey, ValidLeftCutOffKey, Route, BytesT}
 use Rattle.model.specs.cuts.Cuts.{SplitLeft, SplitRight, SplitLeftEdges, SplitRightEdges, cutEdge, edgeWithin}
 use Rattle.model.specs.translation.Translation.{edgePair, Translate, TranslateKey}
 use Rattle.model.specs.translation.PrefixSet.{PrefixSet, ApplyPrefixSet}
-use Rattle.model.proofs.ranges.RangePrefix.{BytesE, shared}
-use Rattle.model.proofs.cuts.Between.{BytesT, bytes-at}
+use Rattle.model.proofs.ranges.RangePrefix.{shared}
+use Rattle.model.proofs.cuts.Between.{bytes-at}
 use Rattle.model.proofs.tables.Routing.{route-from, route-below}
 use Rattle.model.proofs.tables.Slots.{Table, wf-says}
 use Rattle.model.proofs.cuts.Ranges.{cutTo, Spans, cut-slot, cut-route}

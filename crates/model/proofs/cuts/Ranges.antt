@@ -8,16 +8,15 @@ use native.Mathlib.Omega.{arith}
 use lib.ListN.{length, length-append, List·getD-append}
 use lib.Seq.{getD-at}
 use Rattle.model.specs.keys.Key.{Key}
-use Rattle.model.specs.keys.Order.{Element, key, max, lte, lt, LargestLte}
+use Rattle.model.specs.keys.Order.{Element, key, max, lte, lt, LargestLte, BytesE}
 use Rattle.model.specs.ranges.RangePrefix.{InBetween}
-use Rattle.model.specs.tables.Tables.{PivotTable, NumBuckets, pivotAt, lastPivot, all, shortElement, IsStrictlySorted, BoundedKey, Route}
+use Rattle.model.specs.tables.Tables.{PivotTable, NumBuckets, pivotAt, lastPivot, all, shortElement, IsStrictlySorted, BoundedKey, Route, BytesT}
 use Rattle.model.specs.cuts.Cuts.{strictlyBetween}
 use Rattle.model.proofs.Lists.{le-or-lt}
 use Rattle.model.proofs.keys.Order.{lte-refl, lte-trans, lt-false, false-lt, lt-trans-lte, lte-trans-lt}
 use Rattle.model.proofs.keys.Key.{both}
-use Rattle.model.proofs.ranges.RangePrefix.{BytesE}
 use Rattle.model.proofs.tables.Places.{sorted-at, sorted-lte}
-use Rattle.model.proofs.cuts.Between.{BytesT, Within, cut-rises, cut-twice, kept, all-between, bytes-between}
+use Rattle.model.proofs.cuts.Between.{Within, cut-rises, cut-twice, kept, all-between, bytes-between}
 use Rattle.model.proofs.tables.Slots.{Table, WellFormed, Inside, inside-within, inside-left, slot-from}
 
 -- a, the pivots strictly between a and b, and b

@@ -4,11 +4,10 @@ use mathlib.Core.Bool.{Bool, true, false}
 use Prim.Native.Nat.{_≤_}
 use lib.ListN.{length}
 use Rattle.model.specs.keys.Key.{Key, Bytes, maxLen}
-use Rattle.model.specs.tables.Tables.{PivotTable, EdgeTable, WFPivots, WFEdges, BoundedKey}
+use Rattle.model.specs.tables.Tables.{PivotTable, EdgeTable, WFPivots, WFEdges, BoundedKey, BytesT}
 use Rattle.model.specs.cuts.Sides.{inside, Split, SplitEdges}
 use Rattle.model.specs.translation.Translation.{TranslateKey}
 use Rattle.model.proofs.keys.Key.{both}
-use Rattle.model.proofs.cuts.Between.{BytesT}
 use Rattle.model.proofs.cuts.Cuts.{split-left-wf, split-left-most, split-left-bytes, split-left-bounded}
 use Rattle.model.proofs.cuts.Cuts.{split-right-wf, split-right-most, split-right-bytes, split-right-bounded}
 use Rattle.model.proofs.cuts.SplitEdges.{split-left-edges-wf, split-right-edges-wf}

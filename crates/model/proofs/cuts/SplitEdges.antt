@@ -12,12 +12,12 @@ use lib.Seq.{length-take-le, take-suc, drop-cons, getD-take, getD-drop, getD-at}
 use Rattle.model.specs.keys.Key.{Key, Bytes}
 use Rattle.model.specs.keys.Order.{key, max}
 use Rattle.model.specs.records.Record.{Edge, noEdge}
-use Rattle.model.specs.tables.Tables.{PivotTable, EdgeTable, NumBuckets, pivotAt, edgeAt, lastPivot, all, shortEdge, WFPivots, WFEdges}
+use Rattle.model.specs.tables.Tables.{PivotTable, EdgeTable, NumBuckets, pivotAt, edgeAt, lastPivot, all, shortEdge, WFPivots, WFEdges, BytesT}
 use Rattle.model.specs.tables.Tables.{BoundedKey, ValidLeftCutOffKey, CutoffForLeft, CutoffForRight}
 use Rattle.model.specs.cuts.Cuts.{SplitLeft, SplitRight, cutEdge, edgeWithin, SplitLeftEdges, SplitRightEdges}
 use Rattle.model.specs.cuts.Sides.{SplitEdges}
 use Rattle.model.proofs.Lists.{le-or-lt, all-at, all-append, all-parts}
-use Rattle.model.proofs.cuts.Between.{BytesT, bytes-at}
+use Rattle.model.proofs.cuts.Between.{bytes-at}
 use Rattle.model.proofs.tables.Slots.{Table, wf-says, inside-left, slot-itself}
 use Rattle.model.proofs.cuts.Cuts.{left-spans, left-slot, left-is-cut, left-length, left-at, left-end}
 use Rattle.model.proofs.cuts.Cuts.{right-spans, right-slot, right-is-cut, right-length, right-at}

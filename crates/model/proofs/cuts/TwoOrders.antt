@@ -11,13 +11,12 @@ use Rattle.model.specs.declared.Decided.the-variants as decided
 use Rattle.model.specs.keys.Key.{Key, Bytes, maxLen}
 use Rattle.model.specs.keys.Order.{key, lte, lt}
 use Rattle.model.specs.records.Record.{elements, edges, encodeAll, encodeEdges}
-use Rattle.model.specs.tables.Tables.{PivotTable, EdgeTable, pivotAt, lastPivot, all, shortEdge, WFPivots, WFEdges, ContainsRange, BoundedKey}
+use Rattle.model.specs.tables.Tables.{PivotTable, EdgeTable, pivotAt, lastPivot, all, shortEdge, WFPivots, WFEdges, ContainsRange, BoundedKey, BytesT}
 use Rattle.model.specs.cuts.Cuts.{plainCut, plainCutEdges}
 use Rattle.model.specs.calls.Refusals.{first}
 use Rattle.model.specs.calls.TableCalls.{tableCauses, wfEdgesAnswer}
 use Rattle.model.specs.cuts.TwoOrders.{Dests, End, refused, accepted, rightThenLeft, leftThenRight, plainEnd, Preserved, TwoOrders, Demand3}
 use Rattle.model.proofs.calls.Refusals.{unrefused}
-use Rattle.model.proofs.cuts.Between.{BytesT}
 use Rattle.model.proofs.tables.Routing.{wf-all-short, contains-range-bounded}
 use Rattle.model.proofs.cuts.Ranges.{cutTo, cut-bounded}
 use Rattle.model.proofs.calls.TableCalls.{length-elements, length-edges, table-wf, table-most, table-edges, table-edges-short, table-bytes}

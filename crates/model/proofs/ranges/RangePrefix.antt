@@ -11,16 +11,11 @@ use lib.Dec.{eqb}
 use lib.ListN.{length, take, drop}
 use borrow.Author.Tests.{eqb-true, eqb-false, ne-eqb}
 use Rattle.model.specs.keys.Key.{Key, Bytes, IsPrefix, maxLen}
-use Rattle.model.specs.keys.Order.{Element, key, max, lteKey, lte, lt}
+use Rattle.model.specs.keys.Order.{Element, key, max, lteKey, lte, lt, BytesE}
 use Rattle.model.specs.ranges.RangePrefix.{lcpright, lcp, PivotLcp, InBetween}
 use Rattle.model.proofs.keys.Order.{Lte, less, next, Lt, start<, less<, next<, to-Lte, to-Lt, from-Lte, from-Lt}
 use Rattle.model.proofs.keys.Order.{lte-refl, lte-trans, lte-max, lt-lte, lt-false, lt-trans-lte, prefix-first}
 use Rattle.model.proofs.keys.Key.{both, prefix-next, prefix-split, prefix-is-take, prefix-length, prefix-nested}
-
--- what is lent in memory is bytes
-abbrev pub BytesE : Element → Type 0
-BytesE (key k) = Bytes k
-BytesE max = Unit {0}
 
 -- the key is below the element, by where they part
 abbrev Below : Key → Element → Type 0

@@ -10,12 +10,12 @@ use Rattle.model.specs.keys.Key.{Key, Bytes, maxLen, isNil, IsPrefix}
 use Rattle.model.specs.keys.Order.{Element, key, max, lte, lt}
 use Rattle.model.specs.records.Record.{edge}
 use Rattle.model.specs.ranges.RangePrefix.{PivotLcp, InBetween}
-use Rattle.model.specs.tables.Tables.{PivotTable, EdgeTable, NumBuckets, pivotAt, edgeAt, shortElement, WFPivots, BoundedKey, Route, GetKey, edgeFits, WFEdges}
+use Rattle.model.specs.tables.Tables.{PivotTable, EdgeTable, NumBuckets, pivotAt, edgeAt, shortElement, WFPivots, BoundedKey, Route, GetKey, edgeFits, WFEdges, BytesT}
 use Rattle.model.proofs.keys.Key.{both, prefix-length, prefix-trans}
 use Rattle.model.proofs.ranges.RangePrefix.{prefix-of-left, shared, longest}
 use Rattle.model.proofs.tables.Places.{sorted-at}
 use Rattle.model.proofs.tables.Routing.{wf-sorted, wf-keys, wf-short, get-key, route-between, slot-bounded, slot-is-route}
-use Rattle.model.proofs.cuts.Between.{BytesT, bytes-at}
+use Rattle.model.proofs.cuts.Between.{bytes-at}
 use Rattle.model.proofs.cuts.CutEdges.{edges-say}
 
 -- the prefix of a range is no longer than its left end

@@ -7,7 +7,7 @@ use Rattle.model.specs.keys.Key.{Key, Bytes, changePrefix}
 use Rattle.model.specs.keys.Order.{key, lte, lt}
 use Rattle.model.specs.records.Record.{Edge, edge, noEdge}
 use Rattle.model.specs.ranges.RangePrefix.{PivotLcp, InBetween}
-use Rattle.model.specs.tables.Tables.{PivotTable, EdgeTable, NumBuckets, pivotAt, edgeAt, WFPivots, BoundedKey, Route, ContainsRange, GetKey}
+use Rattle.model.specs.tables.Tables.{PivotTable, EdgeTable, NumBuckets, pivotAt, edgeAt, WFPivots, BoundedKey, Route, ContainsRange, GetKey, BytesT}
 use Rattle.model.specs.translation.PrefixSet.{ApplyPrefixSet}
 use Rattle.model.specs.translation.Translation.{edgePair, Translate, TranslateKey}
 use Rattle.model.specs.translation.Renaming.{TranslatePivotPairInternal}
@@ -15,7 +15,7 @@ use Rattle.model.specs.translation.ParentChild.{boundsUnder, slotBounds,
 use Rattle.model.proofs.keys.Key.{both}
 use Rattle.model.proofs.tables.Places.{sorted-at}
 use Rattle.model.proofs.tables.Routing.{wf-sorted, wf-keys, get-key, route-inside, route-between, contains-range-bounded}
-use Rattle.model.proofs.cuts.Between.{BytesT, bytes-at}
+use Rattle.model.proofs.cuts.Between.{bytes-at}
 use Rattle.model.proofs.translation.PivotPair.{pair-fills}
 
 module _ (parent : PivotTable) (et : EdgeTable) (child : PivotTable) (slot : ℕ) where

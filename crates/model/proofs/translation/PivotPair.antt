@@ -12,7 +12,7 @@ use Rattle.model.specs.keys.Order.{Element, key, max, lte, lt}
 use Rattle.model.specs.ranges.RangePrefix.{PivotLcp, InBetween}
 use Rattle.model.specs.ranges.UpperBound.{ShortestUncommonPrefix}
 use Rattle.model.specs.tables.Tables.{shortElement}
-use Rattle.model.specs.translation.Renaming.{TranslateElement, translateRight, TranslatePivotPairInternal}
+use Rattle.model.specs.translation.Renaming.{TranslateElement, translateRight, TranslatePivotPairInternal, Lacks, isMax, other}
 use Rattle.model.proofs.keys.Key.{both, length-change, prefix-split, prefix-is-take, bytes-take}
 use Rattle.model.proofs.keys.Order.{lte-trans, lte-antisym, false-lt, lt-lte, max-above, refuted}
 use Rattle.model.proofs.keys.ChangePrefix.{change-begins, change-undone, change-bytes, change-lte, change-lt, between-shares}
@@ -45,11 +45,6 @@ upper-is-short q h = go (ShortestUncommonPrefix q) refl
     go max e = refl
 
 -- ---- the right bound
-
--- the right bound lacks the prefix, or is max
-pub data Lacks (p : Key) : Element → Type 0 where
-  isMax : Lacks p max
-  other : {r : Key} → IsPrefix p r ≡ false → Lacks p (key r)
 
 -- what holds of a translated key and of the new prefix's bound holds of the new right bound
 pub right-cases : (P : Element → Type 0) (p q : Key) (r : Element)

@@ -1,10 +1,11 @@
 -- Buckets: entries of a key record and a number, and their translation (TranslateBucket, WFTBucket of TranslationLib).
 use mathlib.Core.Path.{_≡_}
-use mathlib.Core.Bool.{Bool, true, false, cond}
+use mathlib.Core.Bool.{Bool, true, false, cond, _&&_}
 use mathlib.Core.List.{List, [], _∷_, _++_, map}
 use Prim.Native.Nat.{ℕ, suc, _+_, _/_, _≤_, _<_}
+use lib.Dec.{eqb, leb}
 use lib.ListN.{length, take, drop, getD}
-use Rattle.model.specs.keys.Key.{Key, IsPrefix, changePrefix}
+use Rattle.model.specs.keys.Key.{Key, maxLen, IsPrefix, changePrefix}
 use Rattle.model.specs.keys.Order.{Element}
 use Rattle.model.specs.records.Record.{recordSize, keyBytes, recordOf, pieces, joined}
 use Rattle.model.specs.tables.Tables.{IsStrictlySorted}
@@ -26,6 +27,10 @@ pub record Entry : Type 0 where
 
 abbrev pub Bucket : Type 0
 Bucket = List Entry
+
+-- a key of at most 64 bytes and a number of four
+abbrev pub sizedEntry : Entry → Bool
+sizedEntry e = leb (length (e .key)) maxLen && eqb (length (e .number)) numberSize
 
 -- ---- as bytes
 

@@ -4,7 +4,7 @@ use mathlib.Core.List.{List, [], _∷_}
 use Prim.Native.Nat.{ℕ, suc, _-_}
 use lib.Dec.{ltb}
 use lib.IntN.{ℤ, pos, negsuc}
-use Rattle.model.specs.keys.Key.{Key}
+use Rattle.model.specs.keys.Key.{Key, Bytes}
 
 -- Keyspace.Element: a key, or Max_Element
 pub data Element : Type 0 where
@@ -15,6 +15,11 @@ pub data Element : Type 0 where
 abbrev pub isKey : Element → Bool
 isKey (key k) = true
 isKey max = false
+
+-- an element made of bytes, as each that is lent is
+abbrev pub BytesE : Element → Type 0
+BytesE (key k) = Bytes k
+BytesE max = Unit {0}
 
 -- SeqComparison.lte: "Order is by the first differing byte, a proper prefix comes first"
 unfoldable pub lteKey : Key → Key → Bool

@@ -5,7 +5,7 @@ use Prim.Native.Nat.{ℕ, _+_, _-_}
 use lib.Dec.{eqb, leb, ltb}
 use lib.ListN.{length, take, getD}
 use Rattle.model.specs.keys.Key.{Key, maxLen, isNil}
-use Rattle.model.specs.keys.Order.{Element, key, max, isKey, lte, lt, same, LargestLte, LargestLt}
+use Rattle.model.specs.keys.Order.{Element, key, max, BytesE, isKey, lte, lt, same, LargestLte, LargestLt}
 use Rattle.model.specs.records.Record.{Edge, edge, noEdge}
 use Rattle.model.specs.ranges.RangePrefix.{PivotLcp}
 
@@ -28,6 +28,11 @@ pivotAt pt i = getD pt i max
 
 abbrev pub edgeAt : EdgeTable → ℕ → Edge
 edgeAt et i = getD et i noEdge
+
+-- pivots made of bytes, as those that are lent are
+abbrev pub BytesT : PivotTable → Type 0
+BytesT [] = Unit {0}
+BytesT (p ∷ pt) = BytesE p × BytesT pt
 
 abbrev pub NumBuckets : PivotTable → ℕ
 NumBuckets pt = length pt - 1
@@ -116,6 +121,10 @@ PivotInsertable pt i k =
     && implies (eqb i (length pt)) (lt (lastPivot pt) (key k))
     && implies (ltb 0 i && ltb i (length pt)) (lt (pivotAt pt (i - 1)) (key k) && lt (key k) (pivotAt pt i))
     && implies (BoundedKey pt k) (eqb (Route pt k + 1) i)
+
+-- the prefix of a slot's range
+abbrev pub slotPrefix : PivotTable → ℕ → Key
+slotPrefix pt i = PivotLcp (pivotAt pt i) (pivotAt pt (i + 1))
 
 -- an edge stands only where the range's prefix isn't ε
 abbrev pub edgeFits : Key → Edge → Bool

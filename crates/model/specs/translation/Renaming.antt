@@ -1,5 +1,6 @@
 -- Pivots and edges under another prefix: TranslateElement, TranslatePivotPairInternal, TranslatePivots and TranslateEdges of TranslationLib.
-use mathlib.Core.Bool.{cond}
+use mathlib.Core.Path.{_≡_}
+use mathlib.Core.Bool.{false, cond}
 use mathlib.Core.List.{[], _∷_, _++_, map}
 use lib.ListN.{take}
 use Rattle.model.specs.keys.Key.{Key, IsPrefix, changePrefix}
@@ -18,6 +19,11 @@ TranslateElement p q max = max
 pub record Bounds : Type 0 where
   pub left : Element
   pub right : Element
+
+-- "right is max or lacks the prefix"
+pub data Lacks (p : Key) : Element → Type 0 where
+  isMax : Lacks p max
+  other : {r : Key} → IsPrefix p r ≡ false → Lacks p (key r)
 
 -- the new right bound: "If right is max or lacks the prefix, the new right is the upper bound of the new prefix"
 unfoldable pub translateRight : Key → Key → Element → Element
