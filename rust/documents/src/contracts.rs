@@ -1,5 +1,6 @@
 //! The table of the source's contracts, docs/CONTRACTS.md: every declaration and clause has its row, every row its
 //! evidence, and every theorem a row.
+use crate::refusals;
 use crate::report::Report;
 use crate::repository::Repository;
 use crate::rows::{is_mark, Contract, Status};
@@ -35,7 +36,9 @@ pub fn check(repository: &Repository) -> Report {
         check_rows(file, repository, &mut report);
     }
     check_marks(document, &files, &mut report);
-    check_theorems(&files, repository, &mut report);
+    let theorems = theorems(repository);
+    check_theorems(&files, &theorems, &mut report);
+    check_refusals(&files, &theorems, repository, &mut report);
     check_counts(document, &files, &mut report);
     report
 }
@@ -131,14 +134,38 @@ fn check_marks(document: &str, files: &[File], report: &mut Report) {
     }
 }
 
-fn check_theorems(files: &[File], repository: &Repository, report: &mut Report) {
-    let theorems = theorems(repository);
-    for theorem in &theorems {
+fn check_theorems(files: &[File], theorems: &[Theorem], report: &mut Report) {
+    for theorem in theorems {
         let place = format!("{}:{}: {}", theorem.path, theorem.at, theorem.name);
         report.thing(&place, faults_of(theorem, files));
     }
-    for (name, places) in twice(&theorems) {
+    for (name, places) in twice(theorems) {
         report.fail(format!("{places}: {name} is there more than once"));
+    }
+}
+
+/// Of the theorems that a row with the number of a refusal cites, one states it.
+fn check_refusals(
+    files: &[File],
+    theorems: &[Theorem],
+    repository: &Repository,
+    report: &mut Report,
+) {
+    for row in files.iter().flat_map(|file| &file.rows) {
+        let Some(numbers) = row.refusal else { continue };
+        let at = row.at;
+        let Some(wanted) = refusals::words_of(numbers, repository) else {
+            report.fail(format!("{DOCUMENT}:{at}: no refusal has that number"));
+            continue;
+        };
+        let cited = || theorems.iter().filter(|t| row.cites(&t.path, &t.name));
+        let states = |theorem: &Theorem| refusals::says(&theorem.statement, &wanted);
+        if cited().next().is_some() && !cited().any(states) {
+            let wanted = wanted.join(" .. ");
+            report.fail(format!(
+                "{DOCUMENT}:{at}: no theorem of it states `{wanted}`"
+            ));
+        }
     }
 }
 

@@ -12,6 +12,7 @@ mod known;
 mod names;
 #[cfg(test)]
 mod names_tests;
+mod refusals;
 mod report;
 mod repository;
 mod rows;

@@ -1,5 +1,6 @@
 //! A row of the table of contracts: how it is read, and whether its status fits.
 use crate::evidence::Evidence;
+use crate::refusals::{self, Numbers};
 use crate::repository::Repository;
 use crate::source::{Item, Kind};
 use crate::table::{self, spans_of};
@@ -13,6 +14,8 @@ pub struct Contract {
     clause: String,
     /// `None` where there is no such status.
     pub status: Option<Status>,
+    /// The numbers of a status `refusal`.
+    pub refusal: Option<Numbers>,
     evidence: Vec<Evidence>,
     remark: String,
     /// What can't be read of status and evidence.
@@ -41,6 +44,7 @@ impl Contract {
             _ => return Err(format!("the clause isn't one span of code: {clause}")),
         };
         let mut unread = vec![];
+        let refusal = refusals::read(status);
         let status = read_status(status);
         if status.is_none() {
             unread.push(format!("there is no status `{}`", row.cells[2]));
@@ -54,6 +58,7 @@ impl Contract {
             line: number,
             clause,
             status,
+            refusal,
             evidence,
             remark: remark.clone(),
             unread,
@@ -130,23 +135,9 @@ fn read_status(text: &str) -> Option<Status> {
         "replaced" => Status::Replaced,
         "total" => Status::Total,
         "dropped" => Status::Dropped,
-        _ if is_refusal(text) => Status::Refusal,
+        _ if refusals::read(text).is_some() => Status::Refusal,
         _ => return None,
     })
-}
-
-/// `refusal N` or `refusal N-M`, of 1 to 10.
-fn is_refusal(text: &str) -> bool {
-    let number = |n: &str| n.parse().ok().filter(|n: &usize| (1..=10).contains(n));
-    let Some(numbers) = text.strip_prefix("refusal ") else {
-        return false;
-    };
-    match numbers.split_once('-') {
-        None => number(numbers).is_some(),
-        Some((first, last)) => {
-            number(first).is_some() && number(last).is_some() && number(first) < number(last)
-        }
-    }
 }
 
 /// Spans of code, and between them only spaces and commas.

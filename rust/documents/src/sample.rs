@@ -7,8 +7,9 @@ pub const THEOREMS: &str = "crates/contracts/proofs/Tables.antt";
 pub const SPECS: &str = "crates/model/specs/Tables.antt";
 pub const CODE: &str = "crates/tables/src/lib.rt";
 pub const HEADER: &str = "include/tables.h";
+pub const NUMBERS: &str = crate::refusals::NUMBERS;
 
-const FILES: [(&str, &str); 8] = [
+const FILES: [(&str, &str); 9] = [
     (
         SOURCE,
         "module BoundedPivotsLib {
@@ -85,6 +86,8 @@ bounded-pivots-2 = refl
 
 -- requires WFPivots(pt)
 pub bounded-pivots-8 : A
+    → Refuses refused 3 B
+bounded-pivots-8 = refl
 
 -- && IsPrefix(k, pt)
 pub bounded-pivots-12 : A
@@ -124,6 +127,7 @@ pub(crate) const SLOTS: u8 = 63;
 ",
     ),
     (HEADER, "uint32_t get_key(void);\n"),
+    (NUMBERS, "number Shape = 1\nnumber Unsorted = 3\n"),
 ];
 
 /// The sample with one text of one file replaced; it must be there.

@@ -95,7 +95,7 @@ fn mark_twice() {
 fn theorem_not_cited() {
     let more = "-- && IsPrefix(k, pt)\npub bounded-pivots-12a : A\n\nmodule _";
     let says = format!("the row of {SOURCE}:12 doesn't cite it");
-    let wanted = format!("{THEOREMS}:14: bounded-pivots-12a: {says}");
+    let wanted = format!("{THEOREMS}:16: bounded-pivots-12a: {says}");
     assert_eq!(faults(&with(THEOREMS, "module _", more)), [wanted]);
 }
 
@@ -115,7 +115,7 @@ fn theorem_cited_by_another_row_alone() {
 fn theorem_of_no_row() {
     let more = "pub bounded-pivots-5 : A\n\nmodule _";
     let says = format!("nothing at {SOURCE}:5 can have a row");
-    let wanted = format!("{THEOREMS}:13: bounded-pivots-5: {says}");
+    let wanted = format!("{THEOREMS}:15: bounded-pivots-5: {says}");
     assert_eq!(faults(&with(THEOREMS, "module _", more)), [wanted]);
 }
 
@@ -146,6 +146,35 @@ fn theorem_twice() {
     let found = faults(&also(&[(path, text)]));
     let wanted = format!("{path}:2, {THEOREMS}:8: bounded-pivots-8 is there more than once");
     assert!(found.contains(&wanted), "{found:#?}");
+}
+
+#[test]
+fn refusal_of_another_number() {
+    let wanted = "docs/CONTRACTS.md:19: no theorem of it states `RefusesAt .. Shape`";
+    document("refusal 1-3", "refusal 1", wanted);
+}
+
+#[test]
+fn refusal_up_to_another_number() {
+    let wanted = "docs/CONTRACTS.md:19: no theorem of it states `Refuses .. 2`";
+    document("refusal 1-3", "refusal 1-2", wanted);
+}
+
+#[test]
+fn refusal_without_a_name() {
+    let wanted = "docs/CONTRACTS.md:19: no refusal has that number";
+    document("refusal 1-3", "refusal 2", wanted);
+}
+
+#[test]
+fn refusal_that_only_the_proof_names() {
+    let found = faults(&with(
+        THEOREMS,
+        "→ Refuses refused 3 B\nbounded-pivots-8 = refl",
+        "→ B\nbounded-pivots-8 = Refuses refused 3",
+    ));
+    let wanted = "docs/CONTRACTS.md:19: no theorem of it states `Refuses .. 3`";
+    assert_eq!(found, [wanted]);
 }
 
 #[test]

@@ -20,8 +20,9 @@ pub struct Theorem {
     pub at: usize,
     pub file: usize,
     pub line: usize,
-    /// The comment directly above.
+    /// The comment directly above, and what it states.
     pub comment: String,
+    pub statement: String,
 }
 
 pub fn theorems(repository: &Repository) -> Vec<Theorem> {
@@ -38,6 +39,7 @@ pub fn theorems(repository: &Repository) -> Vec<Theorem> {
                 file,
                 line,
                 comment: comment_above(&lines[..public.line - 1]),
+                statement: statement(&lines[public.line - 1..], &public.name),
                 name: public.name,
             });
         }
@@ -71,6 +73,16 @@ fn line_of(name: &str) -> Option<(usize, usize)> {
         let line = place.strip_suffix(|c: char| c.is_ascii_lowercase());
         Some((file, line.unwrap_or(place).parse().ok()?))
     })
+}
+
+/// The lines up to what is unfolded for the proof, or to the proof itself.
+fn statement(lines: &[&str], name: &str) -> String {
+    let goes_on = |line: &&&str| {
+        let line = line.trim();
+        !line.is_empty() && !line.starts_with("unfolding ") && !line.starts_with(name)
+    };
+    let lines: Vec<&str> = lines.iter().take_while(goes_on).copied().collect();
+    collapsed(&lines.join(" "))
 }
 
 fn comment_above(lines: &[&str]) -> String {
