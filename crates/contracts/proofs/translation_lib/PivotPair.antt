@@ -1,4 +1,4 @@
--- TranslationLib, lines 247 to 277 and 413: an element, a range and a slot under another prefix, and parent and child.
+-- TranslationLib, lines 132, 133, 247 to 277 and 413: an element, a range and a slot under another prefix, and parent and child.
 use mathlib.Core.Path.{_≡_, refl, sym, _∙_}
 use mathlib.Core.Bool.{true, false, false≢true}
 use mathlib.Core.List.{List}
@@ -20,13 +20,14 @@ use Rattle.model.specs.calls.RenamingCalls.{newBounds, pivotPairAnswer, pivotPa
 use Rattle.model.proofs.keys.ChangePrefix.{change-begins}
 use Rattle.model.proofs.ranges.RangePrefix.{prefix-of-left}
 use Rattle.model.proofs.tables.Places.{sorted-at}
-use Rattle.model.proofs.tables.Routing.{wf-sorted, wf-keys}
+use Rattle.model.proofs.tables.Routing.{wf-sorted, wf-keys, wf-all-short}
 use Rattle.model.proofs.cuts.Between.{bytes-at}
 use Rattle.model.proofs.translation.ParentChild.{parent-child-none}
 use Rattle.model.proofs.translation.PivotPair.{element-short, right-short, pair-rises, pair-shares}
 use Rattle.contracts.specs.Refuses.{RefusesAt}
 use Rattle.contracts.specs.BoundedPivots.{ElementIsKey}
 use Rattle.contracts.specs.Translation.{AllKeysInBetweenHasPrefix, ShortestUncommonPrefixAt}
+use Rattle.contracts.proofs.bounded_pivots.Tables.{bounded-pivots-37}
 use Rattle.contracts.proofs.LongRefused.{left-refused, right-refused}
 use Rattle.contracts.proofs.translation_lib.Ranges.{translation-lib-215}
 
@@ -54,6 +55,16 @@ unfolding slotBounds boundsUnder
 translation-lib-254 pt et slot newPrefix e = rw e
 
 module _ (pt : PivotTable) (slot : ℕ) (w : WFPivots pt ≡ true) (h : slot < NumBuckets pt) where
+  -- requires ElementIsKey(left)
+  -- of a slot, where a table uses it
+  pub translation-lib-132 : ElementIsKey (pivotAt pt slot) ≡ true
+  translation-lib-132 = bounded-pivots-37 pt .0 (wf-all-short pt w) slot (omega arith) (wf-keys pt w slot h)
+
+  -- requires right.Element? ==> ElementIsKey(right)
+  -- of a slot, where a table uses it
+  pub translation-lib-133 : isKey (pivotAt pt (slot + 1)) ≡ true → ElementIsKey (pivotAt pt (slot + 1)) ≡ true
+  translation-lib-133 = bounded-pivots-37 pt .0 (wf-all-short pt w) (slot + 1) (omega arith)
+
   -- requires IsPrefix(prefix, left.e)
   -- of the slot, where TranslatePivotPair uses it
   pub translation-lib-271 : IsPrefix (slotPrefix pt slot) (keyOf (pivotAt pt slot)) ≡ true
