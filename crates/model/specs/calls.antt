@@ -2,6 +2,7 @@ pub mod Refusals
 pub mod KeyCalls
 pub mod TableCalls
 pub mod CutCalls
+pub mod InsertionCalls
 pub mod PairCalls
 pub mod TranslationCalls
 pub mod PairRecordCalls

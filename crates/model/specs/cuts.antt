@@ -1,3 +1,4 @@
 pub mod Cuts
 pub mod Sides
+pub mod Insertion
 pub mod TwoOrders

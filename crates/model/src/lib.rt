@@ -26,6 +26,8 @@ pub enum Refusal {
     TooLong,
     NotBelow,
     NoRoom,
+    AlreadyPivot,
+    TooManyPivots,
 }
 
 // What a call answers whose result is a length, a place or a count.

@@ -20,6 +20,8 @@ pub fn refusal_number(r: Refusal) -> u32
         Refusal::TooLong => 8,
         Refusal::NotBelow => 9,
         Refusal::NoRoom => 10,
+        Refusal::AlreadyPivot => 11,
+        Refusal::TooManyPivots => 12,
     }
 }
 

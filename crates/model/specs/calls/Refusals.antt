@@ -6,7 +6,7 @@ use Prim.Native.Nat.{ℕ}
 use lib.IntN.{ℤ}
 use lib.ListN.{length, drop}
 use Rattle.model.specs.declared.Refusal.{Refusal}
-use Rattle.model.specs.declared.Refusal.the-variants.{Shape, Malformed, Unsorted, EmptyPrefix, OutOfRange, NoSuchSlot, NotPrefix, TooLong, NotBelow, NoRoom}
+use Rattle.model.specs.declared.Refusal.the-variants.{Shape, Malformed, Unsorted, EmptyPrefix, OutOfRange, NoSuchSlot, NotPrefix, TooLong, NotBelow, NoRoom, AlreadyPivot, TooManyPivots}
 use Rattle.model.specs.declared.Answer.{Answer}
 use Rattle.model.specs.declared.Answer.the-variants as answers
 use Rattle.model.specs.declared.Compared.{Compared}
@@ -17,7 +17,7 @@ use Rattle.model.specs.declared.Routed.{Routed}
 use Rattle.model.specs.declared.Routed.the-variants as routed
 
 infix 5 _⇒_
--- the numbers of the table "Refusals"
+-- the numbers of the table "Refusals", and 11 and 12: "the key is already a pivot", "the table would pass 64 pivots"
 abbrev pub number : Refusal → ℕ
 number Shape = 1
 number Malformed = 2
@@ -29,12 +29,14 @@ number NotPrefix = 7
 number TooLong = 8
 number NotBelow = 9
 number NoRoom = 10
+number AlreadyPivot = 11
+number TooManyPivots = 12
 
 -- a cause: whether it applies, and what is answered then
 pub data Cause : Type 0 where
   _⇒_ : Bool → Refusal → Cause
 
--- "The smallest number that applies is answered": a call lists its causes in order, and the first that applies makes the outcome
+-- "the first in the order so made is answered, in place of the smallest": a call lists its causes in order, and the first that applies makes the outcome
 unfoldable pub outcome : {A : Type 0} → (Refusal → A) → List Cause → A → A
 outcome refused [] value = value
 outcome refused ((applies ⇒ r) ∷ causes) value = cond applies (refused r) (outcome refused causes value)

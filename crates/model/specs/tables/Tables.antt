@@ -122,6 +122,11 @@ PivotInsertable pt i k =
     && implies (ltb 0 i && ltb i (length pt)) (lt (pivotAt pt (i - 1)) (key k) && lt (key k) (pivotAt pt i))
     && implies (BoundedKey pt k) (eqb (Route pt k + 1) i)
 
+-- k is one of the pivots
+unfoldable pub isPivot : PivotTable → Key → Bool
+isPivot [] k = false
+isPivot (p ∷ pt) k = same p (key k) || isPivot pt k
+
 -- the prefix of a slot's range
 abbrev pub slotPrefix : PivotTable → ℕ → Key
 slotPrefix pt i = PivotLcp (pivotAt pt i) (pivotAt pt (i + 1))
