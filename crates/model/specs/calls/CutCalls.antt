@@ -22,11 +22,13 @@ cutPivots left p k = Split left (elements p) k
 abbrev pub cutEdges : Bool → List ℕ → List ℕ → Key → EdgeTable
 cutEdges left p e k = SplitEdges left (edges e) (elements p) k
 
--- "A produced key passes 64 bytes", "A destination is too short": either of the two
+-- "A destination is too short": either of the two, for m bytes of pivots and n of edges
+abbrev pub roomCauses : ℕ → ℕ → List ℕ → List ℕ → List Cause
+roomCauses m n dp de = (noRoom m dp || noRoom n de ⇒ NoRoom) ∷ []
+
+-- "A produced key passes 64 bytes", and then that a destination is too short
 abbrev pub writeCauses : PivotTable → EdgeTable → List ℕ → List ℕ → List Cause
-writeCauses pt et dp de =
-    (not (all shortEdge et) ⇒ TooLong) ∷
-    (noRoom (length pt * recordSize) dp || noRoom (length et * recordSize) de ⇒ NoRoom) ∷ []
+writeCauses pt et dp de = (not (all shortEdge et) ⇒ TooLong) ∷ roomCauses (length pt * recordSize) (length et * recordSize) dp de
 
 abbrev pub cutCauses : Bool → List ℕ → List ℕ → Key → List ℕ → List ℕ → List Cause
 cutCauses left p e k dp de =
