@@ -1,5 +1,6 @@
 pub mod Places
 pub mod Insertable
 pub mod Routing
+pub mod NewPivot
 pub mod Slots
 pub mod SlotPrefix

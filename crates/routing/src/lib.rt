@@ -7,14 +7,15 @@ use model::Routed;
 ghost use mathlib.Core.Path.{_≡_};
 ghost use mathlib.Core.Bool.{true, not};
 ghost use mathlib.Core.List.{_∷_, []};
-ghost use Rattle.model.specs.declared.Refusal.the-variants.{OutOfRange};
+ghost use Rattle.model.specs.declared.Refusal.the-variants.{OutOfRange, AlreadyPivot};
 ghost use Rattle.model.specs.keys.Order.{key, passes, lastPlace};
 ghost use Rattle.model.specs.records.Record.{elements};
-ghost use Rattle.model.specs.tables.Tables.{WFPivots};
+ghost use Rattle.model.specs.tables.Tables.{WFPivots, ContainsRange, Route, isPivot};
 ghost use Rattle.model.specs.calls.Refusals.{_⇒_, routing, slotAnswer};
 ghost use Rattle.model.specs.calls.TableCalls.{slotCauses, routeAnswer, cutoffForLeftAnswer, cutoffForRightAnswer};
 ghost use Rattle.model.specs.cuts.Sides.{inside, cutoff};
 ghost use Rattle.model.specs.calls.TableCalls.{edgeSlotCauses};
+ghost use Rattle.model.specs.calls.InsertionCalls.{newPivotCauses};
 
 // How many pivots are not above the key or, where strict, below it: they stand first.
 fn place(pivots: &[u8], k: &[u8], strict: bool) -> usize
@@ -63,6 +64,34 @@ pub fn slot_with_edges(pivots: &[u8], edges: &[u8], k: &[u8], left: bool) -> Rou
 {
     match table_checks::check_table(pivots, edges, false, MAX_LEN < k.len()) {
         Answer::Value(_) => slot_of(pivots, k, left),
+        Answer::Refused(r) => Routed::Refused(r),
+    }
+}
+
+// The slot in which the key lies strictly. Causes 5 and 11.
+fn new_slot_of(pivots: &[u8], k: &[u8]) -> Routed
+    requires { ⌜ WFPivots (elements (now pivots)) ≡ true ⌝ }
+    ensures { λ r. ⌜ r ≡ routing ((not (ContainsRange (elements (now (pivots .entry))) (key (now (k .entry))) (key (now (k .entry)))) ⇒ OutOfRange) ∷ (isPivot (elements (now (pivots .entry))) (now (k .entry)) ⇒ AlreadyPivot) ∷ []) (Route (elements (now (pivots .entry))) (now (k .entry))) ⌝ }
+{
+    let n = place(pivots, k, false);
+    if n == 0 {
+        return Routed::Refused(Refusal::OutOfRange);
+    }
+    if !keys::passes(records::record_at(pivots, n - 1), k, true) {
+        return Routed::Refused(Refusal::AlreadyPivot);
+    }
+    if n == pivots.len() / RECORD_SIZE {
+        return Routed::Refused(Refusal::OutOfRange);
+    }
+    Routed::Slot(n - 1)
+}
+
+// Causes 1 to 5 and 11 of a table with its edges and a key to be inserted; else the slot that it is inserted into.
+pub fn new_pivot_slot(pivots: &[u8], edges: &[u8], k: &[u8]) -> Routed
+    ensures { λ r. ⌜ r ≡ routing (newPivotCauses (now (pivots .entry)) (now (edges .entry)) (now (k .entry))) (Route (elements (now (pivots .entry))) (now (k .entry))) ⌝ }
+{
+    match table_checks::check_table(pivots, edges, false, MAX_LEN < k.len()) {
+        Answer::Value(_) => new_slot_of(pivots, k),
         Answer::Refused(r) => Routed::Refused(r),
     }
 }

@@ -1,18 +1,18 @@
 -- Insertion of a pivot: its causes in order, its answer, and what it leaves in each destination.
-use mathlib.Core.Bool.{Bool}
+use mathlib.Core.Bool.{Bool, false, not}
 use mathlib.Core.List.{List, [], _∷_, _++_}
 use Prim.Native.Nat.{ℕ, _+_}
 use lib.Dec.{ltb}
 use lib.ListN.{length}
-use Rattle.model.specs.declared.Refusal.the-variants.{AlreadyPivot, TooManyPivots}
+use Rattle.model.specs.declared.Refusal.the-variants.{OutOfRange, AlreadyPivot, TooManyPivots}
 use Rattle.model.specs.declared.Answer.{Answer}
-use Rattle.model.specs.keys.Key.{Key}
+use Rattle.model.specs.keys.Key.{Key, tooLong}
 use Rattle.model.specs.keys.Order.{key}
 use Rattle.model.specs.records.Record.{elements, edges, encodeAll, encodeEdges}
 use Rattle.model.specs.tables.Tables.{PivotTable, EdgeTable, maxPivots, ContainsRange, Route, isPivot}
 use Rattle.model.specs.cuts.Insertion.{InsertPivot, InsertPivotEdges}
 use Rattle.model.specs.calls.Refusals.{Cause, _⇒_, answer, leaves}
-use Rattle.model.specs.calls.TableCalls.{edgeSlotCauses}
+use Rattle.model.specs.calls.TableCalls.{tableCauses}
 use Rattle.model.specs.calls.CutCalls.{writeCauses}
 
 -- the pivots and the edges that an insertion of k leaves: k stands behind its slot's first pivot
@@ -25,7 +25,8 @@ insertedEdges p e k = InsertPivotEdges (edges e) (elements p) k
 -- "A key below the first or above the last pivot is 5; one equal to any pivot, first and last included, is 11"
 abbrev pub newPivotCauses : List ℕ → List ℕ → Key → List Cause
 newPivotCauses p e k =
-    edgeSlotCauses p e k (ContainsRange (elements p) (key k) (key k)) ++ ((isPivot (elements p) k ⇒ AlreadyPivot) ∷ [])
+    tableCauses false (tooLong k) p e
+    ++ ((not (ContainsRange (elements p) (key k) (key k)) ⇒ OutOfRange) ∷ (isPivot (elements p) k ⇒ AlreadyPivot) ∷ [])
 
 -- "the table would pass 64 pivots"
 abbrev pub tooManyPivots : PivotTable → Bool

@@ -1,0 +1,51 @@
+-- `routing::new_slot_of` meets its contract.
+use Rattle.routing.proofs.Inserting.{below-all, a-pivot, above-all, strictly-in}
+use borrow.Author.Needs.{needs}
+use Rattle.routing.proofs.new_slot_of.Statement.{statement}
+use Rattle.routing.proofs.new_slot_of.Tie as tie
+
+ruleset rules = (needs, below-all, a-pivot, above-all)
+
+place-requires : tie.Need-place-requires
+place-requires c κs = search rules
+
+returns : tie.Need-returns
+returns c = search rules
+
+sub-record-at : tie.Need-sub-record-at
+sub-record-at c = search rules
+
+record-at-requires : tie.Need-record-at-requires
+record-at-requires c κs = search rules
+
+passes-requires : tie.Need-passes-requires
+passes-requires c κs = search rules
+
+returns-2 : tie.Need-returns-2
+returns-2 c = search rules
+
+returns-3 : tie.Need-returns-3
+returns-3 c = search rules
+
+sub-t7 : tie.Need-sub-t7
+sub-t7 c = search rules
+
+returns-4 : tie.Need-returns-4
+returns-4 c =
+    let last = c .before .before .before .record-at .ensures in
+    let below = c .before .before .passes .ensures in
+    strictly-in _ _ _ (search rules) (search rules) (search rules) _ _ last below (search rules) (search rules)
+
+pub new-slot-of-spec : {M : Type 1} → statement M
+new-slot-of-spec =
+    tie.close
+    (tie.spec
+    place-requires
+    returns
+    sub-record-at
+    record-at-requires
+    passes-requires
+    returns-2
+    returns-3
+    sub-t7
+    returns-4)
