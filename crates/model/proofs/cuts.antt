@@ -4,8 +4,10 @@ pub mod Cuts
 pub mod CutEdges
 pub mod SplitEdges
 pub mod Preserved
+pub mod Meeting
 pub mod PlainCut
 pub mod Sides
+pub mod Insertion
 pub mod OneCut
 pub mod AcceptedCuts
 pub mod OneOrder
