@@ -2,6 +2,7 @@ pub mod Refusals
 pub mod TableCalls
 pub mod KeyCalls
 pub mod CutCalls
+pub mod InsertionCalls
 pub mod WrittenTables
 pub mod PairCalls
 pub mod TranslationCalls

@@ -52,6 +52,12 @@ module _ {A : Type 0} (s : ℕ) (ok : A → Bool) (write : A → List ℕ) (size
     pub joined-drop : joined (map write (drop n xs)) ≡ drop (n * s) (joined (map write xs))
     joined-drop = rw (seam, drop-at (joined (map write (take n xs))) (joined (map write (drop n xs))) (n * s) size-first)
 
+  -- the first m values, others, and those from place n on
+  pub joined-parts : (m n : ℕ) (xs ys : List A) (l : List ℕ) → joined (map write xs) ≡ l → m ≤ length xs → n ≤ length xs → all ok xs ≡ true
+      → joined (map write (take m xs ++ (ys ++ drop n xs))) ≡ take (m * s) l ++ (joined (map write ys) ++ drop (n * s) l)
+  joined-parts m n xs ys l e f g h =
+      rw (joined-append write (take m xs) (ys ++ drop n xs), joined-append write ys (drop n xs), joined-take m xs f h, joined-drop n xs g h, e)
+
   module _ (read : List ℕ → A) (back : (x : A) → ok x ≡ true → read (write x) ≡ x) where
     read-first : (xs : List A) → all ok xs ≡ true → map read (pieces s (length xs) (joined (map write xs))) ≡ xs
     unfolding joined all pieces
