@@ -7,6 +7,7 @@ pub mod Preserved
 pub mod Meeting
 pub mod PlainCut
 pub mod Sides
+pub mod Ends
 pub mod Insertion
 pub mod OneCut
 pub mod AcceptedCuts

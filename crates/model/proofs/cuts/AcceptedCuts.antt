@@ -22,14 +22,13 @@ use Rattle.model.proofs.tables.Routing.{wf-all-short}
 use Rattle.model.proofs.calls.TableCalls.{table-wrong, table-wf, table-bytes}
 use Rattle.model.proofs.calls.WrittenTables.{bytes-encodeAll}
 use Rattle.model.proofs.cuts.Sides.{split-bounded, split-bytes}
+use Rattle.model.proofs.cuts.Ends.{wrote-none}
 use Rattle.model.proofs.cuts.OneCut.{Cuttable, pivots-back, cut-ends-with, cut-table, cut-alike}
 
 module _ (left : Bool) (k : Key) (d : Dests) (p e : List ℕ) (n : ℕ) (p′ e′ : List ℕ) (a : cut left k d p e ≡ wrote n p′ e′) where
   -- no cause applies
   no-cause : first (cutCauses left p e k (d .forPivots) (d .forEdges)) ≡ none
-  no-cause =
-      unrefused answers.Refused (answers.Value (length (cutPivots left p k))) (cutCauses left p e k (d .forPivots) (d .forEdges))
-      (λ r q. true≢false (sym (ap accepted a) ∙ rw q))
+  no-cause = wrote-none (cutCauses left p e k (d .forPivots) (d .forEdges)) (length (cutPivots left p k)) _ _ n p′ e′ a
 
   -- so none of the table and the key
   no-slot-cause : first (edgeSlotCauses p e k (inside left (elements p) k)) ≡ none

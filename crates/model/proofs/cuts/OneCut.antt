@@ -25,31 +25,11 @@ use Rattle.model.proofs.calls.Refusals.{refused-by, passed, after}
 use Rattle.model.proofs.tables.Routing.{wf-all-short}
 use Rattle.model.proofs.records.Records.{length-encodeAll, length-encodeEdges, elements-encodeAll, edges-encodeEdges}
 use Rattle.model.proofs.cuts.CutEdges.{edges-say}
+use Rattle.model.proofs.cuts.Ends.{full, endBy, endWith, write-ends}
 use Rattle.model.proofs.calls.TableCalls.{table-wf, table-most, table-edges, not-too-long}
 use Rattle.model.proofs.calls.WrittenTables.{wf-table-causes}
 use Rattle.model.proofs.cuts.Sides.{split-wf, split-most, split-bounded, split-bytes, split-edges-wf, split-preserved}
 use Rattle.model.proofs.calls.Alike.{slot-first, alike}
-
--- ---- where a cut ends
-
-module _ (cs : List Cause) (n : ℕ) (w x dp de : List ℕ) where
-  -- a call ends at the first cause that applies
-  ends-refused : (r : Refusal) → first cs ≡ some r → endOf (answer cs n) (leaves cs w dp) (leaves cs x de) ≡ refused r
-  ends-refused r h = rw (sym (refused-by answers.Refused (answers.Value n) _ cs r h refl))
-
-  -- or where it has written, at the heads of its destinations
-  ends-wrote : first cs ≡ none → n * recordSize ≡ length w → (n - 1) * recordSize ≡ length x
-      → endOf (answer cs n) (leaves cs w dp) (leaves cs x de) ≡ wrote n w x
-  ends-wrote h a b =
-      rw (
-        sym (passed answers.Refused (answers.Value n) _ cs h refl),
-        sym (passed (λ (r : Refusal). dp) (over w dp) _ cs h refl),
-        sym (passed (λ (r : Refusal). de) (over x de) _ cs h refl),
-        a,
-        b,
-        take-over w dp,
-        take-over x de,
-      )
 
 -- what a cut at k of pivots p and edges e needs, but for the length of its edges and for room
 pub record Cuttable (left : Bool) (k : Key) (p e : List ℕ) : Type 0 where
@@ -63,14 +43,6 @@ pub record Cuttable (left : Bool) (k : Key) (p e : List ℕ) : Type 0 where
 pub record Roomy (pt : PivotTable) (et : EdgeTable) (d : Dests) : Type 0 where
   pub pivots : length pt * recordSize ≤ length (d .forPivots)
   pub edges : length et * recordSize ≤ length (d .forEdges)
-
--- where a call that writes pt and et ends: whether the edges are short, and whether there is no room
-abbrev pub endBy : Bool → Bool → PivotTable → EdgeTable → End
-endBy short full pt et = cond short (cond full (refused NoRoom) (wrote (length pt) (encodeAll pt) (encodeEdges et))) (refused TooLong)
-
--- where it ends if there is room
-abbrev pub endWith : PivotTable → EdgeTable → End
-endWith pt et = endBy (all shortEdge et) false pt et
 
 module _ {left : Bool} {k : Key} {p e : List ℕ} (c : Cuttable left k p e) where
   -- the pivots and the edges of the cut
@@ -99,10 +71,6 @@ module _ {left : Bool} {k : Key} {p e : List ℕ} (c : Cuttable left k p e) wher
   pivots-back = elements-encodeAll pt (wf-all-short pt cut-wf)
 
   module _ (d : Dests) where
-    -- there is no room for them
-    abbrev full : Bool
-    full = noRoom (length pt * recordSize) (d .forPivots) || noRoom (length et * recordSize) (d .forEdges)
-
     -- only the last causes, of what is written, are left
     cut-first : first (cutCauses left p e k (d .forPivots) (d .forEdges)) ≡ first (writeCauses pt et (d .forPivots) (d .forEdges))
     cut-first =
@@ -111,20 +79,12 @@ module _ {left : Bool} {k : Key} {p e : List ℕ} (c : Cuttable left k p e) wher
         sym (after some none _ cs _ f refl)
 
     -- a cut ends where what it writes, and the room for it, say
-    pub cut-ends : cut left k d p e ≡ endBy (all shortEdge et) full pt et
-    cut-ends = go (all shortEdge et) full refl refl
-      where
-        go : (s t : Bool) → all shortEdge et ≡ s → full ≡ t → cut left k d p e ≡ endBy s t pt et
-        go true true s f = ends-refused _ _ _ _ _ _ NoRoom (cut-first ∙ unfold outcome in rw (s, f))
-        go true false s f =
-            let n = edges-say et pt cut-edges-wf .count in
-            let m = length-encodeEdges et s in
-            ends-wrote _ _ _ _ _ _ (cut-first ∙ unfold outcome in rw (s, f)) (sym (length-encodeAll pt (wf-all-short pt cut-wf))) (omega arith)
-        go false t s f = ends-refused _ _ _ _ _ _ TooLong (cut-first ∙ unfold outcome in rw s)
+    pub cut-ends : cut left k d p e ≡ endBy (all shortEdge et) (full pt et d) pt et
+    cut-ends = write-ends pt et d cut-wf cut-edges-wf (cutCauses left p e k (d .forPivots) (d .forEdges)) cut-first
 
     -- where it is not refused for room, there is room
     pub cut-ends-with : (cut left k d p e ≡ refused NoRoom → ⊥) → cut left k d p e ≡ endWith pt et
-    cut-ends-with f = cut-ends ∙ go (all shortEdge et) full (λ x. f (cut-ends ∙ x))
+    cut-ends-with f = cut-ends ∙ go (all shortEdge et) (full pt et d) (λ x. f (cut-ends ∙ x))
       where
         go : (s t : Bool) → (endBy s t pt et ≡ refused NoRoom → ⊥) → endBy s t pt et ≡ endBy s false pt et
         go true true f = absurd (f refl)

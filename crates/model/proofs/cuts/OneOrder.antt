@@ -12,7 +12,8 @@ use Rattle.model.specs.cuts.Sides.{inside, Split, SplitEdges}
 use Rattle.model.specs.calls.CutCalls.{cutPivots, cutEdges}
 use Rattle.model.specs.cuts.TwoOrders.{Dests, End, wrote, refused, cut, next}
 use Rattle.model.proofs.records.Records.{edges-encodeEdges}
-use Rattle.model.proofs.cuts.OneCut.{endBy, Cuttable, Roomy, endWith, pivots-back, cut-ends-with, cut-roomy, cut-again, roomy-again}
+use Rattle.model.proofs.cuts.Ends.{endBy, endWith}
+use Rattle.model.proofs.cuts.OneCut.{Cuttable, Roomy, pivots-back, cut-ends-with, cut-roomy, cut-again, roomy-again}
 
 -- a cut at j, and of what it left a cut at k, that together make qt and qe
 pub record Order (left again : Bool) (j k : Key) (p e : List ℕ) (qt : PivotTable) (qe : EdgeTable) : Type 0 where

@@ -25,7 +25,8 @@ use Rattle.model.proofs.cuts.PlainCut.{right-accepted, left-after-right
 use Rattle.model.proofs.cuts.PlainCut.{right-left-edges, left-right-edges, plain-edges-wf, plain-preserved, right-edges-short, left-edges-short}
 use Rattle.model.proofs.calls.WrittenTables.{wf-table-causes}
 use Rattle.model.proofs.calls.Alike.{alike}
-use Rattle.model.proofs.cuts.OneCut.{endBy, Roomy, endWith}
+use Rattle.model.proofs.cuts.Ends.{endBy, endWith}
+use Rattle.model.proofs.cuts.OneCut.{Roomy}
 use Rattle.model.proofs.cuts.OneOrder.{Order, order-ends, order-roomy}
 
 -- a table that is answered to be well formed has none of the causes 1 to 4

@@ -1,0 +1,73 @@
+-- Where a call that writes a table ends: at its first cause, or with the records written.
+use mathlib.Core.Path.{_≡_, refl, sym, ap, _∙_}
+use mathlib.Core.Bool.{Bool, true, false, cond, _||_, true≢false}
+use mathlib.Core.List.{List}
+use mathlib.Core.Option.{none, some}
+use Prim.Native.Nat.{ℕ, _*_, _-_}
+use native.Mathlib.Omega.{arith}
+use lib.ListN.{length}
+use Rattle.model.specs.declared.Refusal.{Refusal}
+use Rattle.model.specs.declared.Refusal.the-variants.{TooLong, NoRoom}
+use Rattle.model.specs.declared.Answer.the-variants as answers
+use Rattle.model.specs.records.Record.{recordSize, encodeAll, encodeEdges}
+use Rattle.model.specs.tables.Tables.{PivotTable, EdgeTable, all, shortEdge, WFPivots, WFEdges}
+use Rattle.model.specs.calls.Refusals.{Cause, outcome, first, answer, leaves, over}
+use Rattle.model.specs.calls.KeyCalls.{noRoom}
+use Rattle.model.specs.calls.CutCalls.{writeCauses}
+use Rattle.model.specs.cuts.TwoOrders.{Dests, End, wrote, refused, accepted, endOf}
+use Rattle.model.proofs.Lists.{take-over}
+use Rattle.model.proofs.calls.Refusals.{refused-by, passed, unrefused}
+use Rattle.model.proofs.tables.Routing.{wf-all-short}
+use Rattle.model.proofs.records.Records.{length-encodeAll, length-encodeEdges}
+use Rattle.model.proofs.cuts.CutEdges.{edges-say}
+
+module _ (cs : List Cause) (n : ℕ) (w x dp de : List ℕ) where
+  -- a call ends at the first cause that applies
+  ends-refused : (r : Refusal) → first cs ≡ some r → endOf (answer cs n) (leaves cs w dp) (leaves cs x de) ≡ refused r
+  ends-refused r h = rw (sym (refused-by answers.Refused (answers.Value n) _ cs r h refl))
+
+  -- or where it has written, at the heads of its destinations
+  pub ends-wrote : first cs ≡ none → n * recordSize ≡ length w → (n - 1) * recordSize ≡ length x
+      → endOf (answer cs n) (leaves cs w dp) (leaves cs x de) ≡ wrote n w x
+  ends-wrote h a b =
+      rw (
+        sym (passed answers.Refused (answers.Value n) _ cs h refl),
+        sym (passed (λ (r : Refusal). dp) (over w dp) _ cs h refl),
+        sym (passed (λ (r : Refusal). de) (over x de) _ cs h refl),
+        a,
+        b,
+        take-over w dp,
+        take-over x de,
+      )
+
+-- where it has written no cause applies
+pub wrote-none : (cs : List Cause) (n : ℕ) (y z : List ℕ) (m : ℕ) (p e : List ℕ) → endOf (answer cs n) y z ≡ wrote m p e → first cs ≡ none
+wrote-none cs n y z m p e a = unrefused answers.Refused (answers.Value n) cs (λ r q. true≢false (sym (ap accepted a) ∙ rw q))
+
+-- there is no room for the records of pt and et
+abbrev pub full : PivotTable → EdgeTable → Dests → Bool
+full pt et d = noRoom (length pt * recordSize) (d .forPivots) || noRoom (length et * recordSize) (d .forEdges)
+
+-- where a call that writes them ends: whether the edges are short, and whether there is no room
+abbrev pub endBy : Bool → Bool → PivotTable → EdgeTable → End
+endBy short full pt et = cond short (cond full (refused NoRoom) (wrote (length pt) (encodeAll pt) (encodeEdges et))) (refused TooLong)
+
+-- where it ends if there is room
+abbrev pub endWith : PivotTable → EdgeTable → End
+endWith pt et = endBy (all shortEdge et) false pt et
+
+-- of its causes only the last, of what is written, may apply
+pub write-ends : (pt : PivotTable) (et : EdgeTable) (d : Dests) → WFPivots pt ≡ true → WFEdges et pt ≡ true
+    → (cs : List Cause) → first cs ≡ first (writeCauses pt et (d .forPivots) (d .forEdges))
+    → endOf (answer cs (length pt)) (leaves cs (encodeAll pt) (d .forPivots)) (leaves cs (encodeEdges et) (d .forEdges))
+    ≡ endBy (all shortEdge et) (full pt et d) pt et
+write-ends pt et d w v cs h = go (all shortEdge et) (full pt et d) refl refl
+  where
+    go : (s t : Bool) → all shortEdge et ≡ s → full pt et d ≡ t
+        → endOf (answer cs (length pt)) (leaves cs (encodeAll pt) (d .forPivots)) (leaves cs (encodeEdges et) (d .forEdges)) ≡ endBy s t pt et
+    go true true s f = ends-refused _ _ _ _ _ _ NoRoom (h ∙ unfold outcome in rw (s, f))
+    go true false s f =
+        let n = edges-say et pt v .count in
+        let m = length-encodeEdges et s in
+        ends-wrote _ _ _ _ _ _ (h ∙ unfold outcome in rw (s, f)) (sym (length-encodeAll pt (wf-all-short pt w))) (omega arith)
+    go false t s f = ends-refused _ _ _ _ _ _ TooLong (h ∙ unfold outcome in rw s)
