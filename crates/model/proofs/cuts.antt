@@ -13,3 +13,5 @@ pub mod OneCut
 pub mod AcceptedCuts
 pub mod OneOrder
 pub mod TwoOrders
+pub mod LongInsertion
+pub mod Inserted

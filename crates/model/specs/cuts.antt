@@ -2,3 +2,4 @@ pub mod Cuts
 pub mod Sides
 pub mod Insertion
 pub mod TwoOrders
+pub mod Inserted

@@ -1,11 +1,12 @@
 -- How a call's outcome is found in its ordered list of causes: a cause that applies ends the list, one that does not is passed.
 use mathlib.Core.Path.{_≡_, refl, sym, ap, _∙_}
-use mathlib.Core.Bool.{Bool, true, false, cond, not, _||_, or-true}
+use mathlib.Core.Bool.{Bool, true, false, cond, not, _&&_, _||_, or-true, true≢false}
 use mathlib.Core.List.{List, [], _∷_, _++_, append-nil}
-use mathlib.Core.Option.{Option, none, some}
+use mathlib.Core.Option.{Option, none, some, Option·some-injective}
 use Prim.Native.Nat.{ℕ}
 use lib.IntN.{ℤ}
 use native.Mathlib.Omega.{arith}
+use lib.Dec.{eqb}
 use borrow.Author.Tests.{lt-ltb, le-ltb, eq-eqb, ne-eqb}
 use Rattle.model.specs.declared.Refusal.{Refusal}
 use Rattle.model.specs.declared.Answer.{Answer}
@@ -14,7 +15,8 @@ use Rattle.model.specs.declared.Compared.{Compared}
 use Rattle.model.specs.declared.Compared.the-variants as compared
 use Rattle.model.specs.declared.Routed.{Routed}
 use Rattle.model.specs.declared.Routed.the-variants as routed
-use Rattle.model.specs.calls.Refusals.{Cause, _⇒_, outcome, first, answer, routing, slotAnswer}
+use Rattle.model.specs.calls.Refusals.{number, Cause, _⇒_, outcome, first, answer, routing, slotAnswer}
+use Rattle.model.proofs.keys.Key.{both}
 
 module _ {A : Type 0} (f : Refusal → A) (v x : A) where
   -- a cause that applies makes the outcome
@@ -119,6 +121,24 @@ module _ (cs ds : List Cause) (h : first (cs ++ ds) ≡ none) where
 
   pub none-after : first ds ≡ none
   none-after = neither .1
+
+-- r is none of the causes
+abbrev pub lacks : Refusal → List Cause → Bool
+lacks r [] = true
+lacks r ((b ⇒ s) ∷ cs) = not (eqb (number s) (number r)) && lacks r cs
+
+-- so where it is the first, it is so of those that follow
+pub lacking : (r : Refusal) (cs ds : List Cause) → lacks r cs ≡ true → first (cs ++ ds) ≡ some r → (first cs ≡ none) × (first ds ≡ some r)
+unfolding outcome
+lacking r [] ds l h = (refl, h)
+lacking r ((b ⇒ s) ∷ cs) ds l h = go b h (lacking r cs ds (both (not (eqb (number s) (number r))) (lacks r cs) l .1))
+  where
+    go : (b : Bool) → cond b (some s) (first (cs ++ ds)) ≡ some r → (first (cs ++ ds) ≡ some r → (first cs ≡ none) × (first ds ≡ some r))
+        → (cond b (some s) (first cs) ≡ none) × (first ds ≡ some r)
+    go true e f =
+        let n = eq-eqb (number s) (number r) (ap number (Option·some-injective s r e)) in
+        absurd (true≢false (sym (both (not (eqb (number s) (number r))) (lacks r cs) l .0) ∙ ap not n))
+    go false e f = f e
 
 -- ---- what an inner call's answer says of its causes
 

@@ -1,0 +1,158 @@
+-- What is asked of insertion holds: an accepted one leaves a table that translates and is cut as the old one, and it is refused for length where a cut at the key is.
+use mathlib.Core.Path.{_≡_, refl, sym, ap, subst, _∙_}
+use mathlib.Core.Logic.{_⊎_, inl, inr}
+use mathlib.Core.Bool.{Bool, true, false, not, _&&_, _||_, true≢false}
+use mathlib.Core.List.{List, [], _∷_, _++_}
+use mathlib.Core.Option.{Option, none, some}
+use Prim.Native.Nat.{ℕ, _+_, _*_, _-_, _≤_}
+use native.Mathlib.Omega.{arith}
+use borrow.Author.Tests.{ltb-false, not-false}
+use lib.ListN.{length}
+use Rattle.model.specs.declared.Refusal.{Refusal}
+use Rattle.model.specs.declared.Refusal.the-variants.{OutOfRange, AlreadyPivot, TooManyPivots, TooLong}
+use Rattle.model.specs.declared.Answer.the-variants as answers
+use Rattle.model.specs.declared.Decided.the-variants as decided
+use Rattle.model.specs.keys.Key.{Key, Bytes, tooLong, maxLen}
+use Rattle.model.specs.keys.Order.{key}
+use Rattle.model.specs.records.Record.{recordSize, elements, edges, encodeAll, encodeEdges}
+use Rattle.model.specs.tables.Tables.{PivotTable, EdgeTable, maxPivots, all, shortEdge, WFPivots, WFEdges, BytesT, BoundedKey, Route}
+use Rattle.model.specs.cuts.Sides.{inside}
+use Rattle.model.specs.cuts.Insertion.{InsertPivot}
+use Rattle.model.specs.calls.Refusals.{Cause, _⇒_, outcome, first, answer, leaves}
+use Rattle.model.specs.calls.TableCalls.{tableCauses, edgeSlotCauses, wfEdgesAnswer}
+use Rattle.model.specs.calls.CutCalls.{cutPivots, cutEdges, writeCauses, cutCauses}
+use Rattle.model.specs.calls.InsertionCalls.{insertedPivots, insertedEdges, newPivotCauses, tooManyPivots, insertCauses}
+use Rattle.model.specs.cuts.TwoOrders.{Dests, End, wrote, refused, TranslatedAlike}
+use Rattle.model.specs.cuts.Inserted.{insert, CutAlike, Inserted, Kept, LongAsCuts, Inserts}
+use Rattle.model.proofs.calls.Refusals.{passed, after, followed, none-here, none-later, none-before, none-after}
+use Rattle.model.proofs.calls.TableCalls.{table-wf, table-wrong, table-most, table-edges, table-bytes}
+use Rattle.model.proofs.calls.WrittenTables.{wf-table-causes}
+use Rattle.model.proofs.calls.Alike.{slot-first, alike, alike-outside}
+use Rattle.model.proofs.calls.InsertionCalls.{insert-table, insert-strictly, insert-key, insert-found}
+use Rattle.model.proofs.records.Records.{length-encodeAll, length-encodeEdges, elements-encodeAll, edges-encodeEdges}
+use Rattle.model.proofs.tables.Routing.{wf-all-short}
+use Rattle.model.proofs.tables.NewPivot.{strictly-inside}
+use Rattle.model.proofs.cuts.CutEdges.{edges-say}
+use Rattle.model.proofs.cuts.Ends.{ends-wrote, wrote-none}
+use Rattle.model.proofs.cuts.LongInsertion.{long-as-cuts}
+use Rattle.model.proofs.cuts.Insertion.{insert-length, insert-wf, insert-edges-wf, insert-inside, insert-split, insert-split-edges, insert-bounded, insert-preserved}
+
+-- ---- an accepted insertion
+
+module _ (p e : List ℕ) (k : Key) (b : Bytes p) (g : Bytes k) (h : first (newPivotCauses p e k) ≡ none)
+    (m : tooManyPivots (insertedPivots p k) ≡ false) (s : all shortEdge (insertedEdges p e k) ≡ true) where
+  -- the new pivots and edges
+  abbrev pt : PivotTable
+  pt = insertedPivots p k
+
+  abbrev et : EdgeTable
+  et = insertedEdges p e k
+
+  abbrev c : ℕ
+  c = Route (elements p) k
+
+  -- the table
+  wf : WFPivots (elements p) ≡ true
+  wf = table-wf _ _ p e (insert-table p e k h)
+
+  bytes : BytesT (elements p)
+  bytes = table-bytes _ _ p e (insert-table p e k h) b
+
+  fits : WFEdges (edges e) (elements p) ≡ true
+  fits = table-edges _ _ p e (insert-table p e k h)
+
+  -- and the new one
+  new-wf : WFPivots pt ≡ true
+  new-wf = insert-wf (elements p) k wf c (insert-strictly p e k h) (insert-key p e k h) bytes g (edges e) fits
+
+  new-fits : WFEdges et pt ≡ true
+  new-fits = insert-edges-wf (elements p) k wf c (insert-strictly p e k h) (insert-key p e k h) bytes g (edges e) fits
+
+  pivots-back : elements (encodeAll pt) ≡ pt
+  pivots-back = elements-encodeAll pt (wf-all-short pt new-wf)
+
+  edges-back : edges (encodeEdges et) ≡ et
+  edges-back = edges-encodeEdges et s
+
+  -- neither has one of the causes 1 to 4
+  old-table : first (tableCauses false false p e) ≡ none
+  old-table = rw (table-wrong _ _ p e (insert-table p e k h)) at (insert-table p e k h)
+
+  new-table : first (tableCauses false false (encodeAll pt) (encodeEdges et)) ≡ none
+  new-table = wf-table-causes pt et new-wf (ltb-false maxPivots (length pt) m) new-fits s false refl
+
+  -- a key is bounded by both or by neither
+  same-keys : (j : Key) → BoundedKey (elements (encodeAll pt)) j ≡ BoundedKey (elements p) j
+  same-keys j =
+      rw pivots-back (insert-bounded (elements p) k wf c (insert-strictly p e k h) (insert-key p e k h) bytes g (edges e) fits j)
+
+  -- and is translated alike
+  new-keys : (j : Key) → Bytes j → TranslatedAlike p e (encodeAll pt) (encodeEdges et) j
+  new-keys j d = go (BoundedKey (elements p) j) refl
+    where
+      go : (t : Bool) → BoundedKey (elements p) j ≡ t → TranslatedAlike p e (encodeAll pt) (encodeEdges et) j
+      go true v =
+          alike p e (encodeAll pt) (encodeEdges et) j old-table new-table v (same-keys j ∙ v)
+          (rw (pivots-back, edges-back)
+          (insert-preserved (elements p) k wf c (insert-strictly p e k h) (insert-key p e k h) bytes g (edges e) fits j d v))
+      go false v = alike-outside p e (encodeAll pt) (encodeEdges et) j old-table new-table v (same-keys j ∙ v)
+
+  -- the cuts at the key are of the same pivots and edges
+  same-pivots : (left : Bool) → cutPivots left (encodeAll pt) k ≡ cutPivots left p k
+  same-pivots left =
+      rw pivots-back (insert-split (elements p) k wf c (insert-strictly p e k h) (insert-key p e k h) bytes g (edges e) fits left)
+
+  same-edges : (left : Bool) → cutEdges left (encodeAll pt) (encodeEdges et) k ≡ cutEdges left p e k
+  same-edges left =
+      rw (pivots-back, edges-back)
+      (insert-split-edges (elements p) k wf c (insert-strictly p e k h) (insert-key p e k h) bytes g (edges e) fits left)
+
+  same-slot : (left : Bool) → first (edgeSlotCauses (encodeAll pt) (encodeEdges et) k (inside left (elements (encodeAll pt)) k))
+      ≡ first (edgeSlotCauses p e k (inside left (elements p) k))
+  same-slot left =
+      let i = insert-inside (elements p) k wf c (insert-strictly p e k h) (insert-key p e k h) bytes g (edges e) fits left in
+      let j = strictly-inside (elements p) k wf c (insert-strictly p e k h) left in
+      slot-first (encodeAll pt) (encodeEdges et) k (inside left (elements (encodeAll pt)) k) new-table (rw pivots-back i) ∙ sym (slot-first p e k (inside left (elements p) k) old-table j)
+
+  -- so they are the same
+  new-cuts : (left : Bool) → CutAlike left p e (encodeAll pt) (encodeEdges et) k
+  new-cuts left dp de = (
+    rw (same-pivots left, same-edges left) (followed _ _ _ _ _ (same-slot left)),
+    rw (same-pivots left, same-edges left) (followed _ _ _ _ _ (same-slot left)),
+    rw (same-pivots left, same-edges left) (followed _ _ _ _ _ (same-slot left)),
+  )
+
+  -- so it leaves what is asked
+  pub leaves-inserted : Inserted p e k (length pt) (encodeAll pt) (encodeEdges et)
+  leaves-inserted =
+      record {
+        table = sym (passed decided.Refused decided.Yes decided.Yes _ new-table refl);
+        pivots = pivots-back;
+        count = insert-length (elements p) k wf c (insert-strictly p e k h);
+        keys = new-keys;
+        cuts = new-cuts;
+      }
+
+  -- at the heads of its destinations
+  pub ends-inserted : (d : Dests) → first (insertCauses p e k (d .forPivots) (d .forEdges)) ≡ none → insert k d p e ≡ wrote (length pt) (encodeAll pt) (encodeEdges et)
+  ends-inserted d f =
+      let n = edges-say et pt new-fits .count in
+      let l = length-encodeEdges et s in
+      ends-wrote _ _ _ _ _ _ f (sym (length-encodeAll pt (wf-all-short pt new-wf))) (omega arith)
+
+-- where an insertion ends
+inserts-kept : (p e : List ℕ) (k : Key) (d : Dests) → Bytes p → Bytes k → Kept p e k (insert k d p e)
+inserts-kept p e k d b g = go (insert k d p e) refl
+  where
+    go : (x : End) → insert k d p e ≡ x → Kept p e k x
+    go (refused r) a = tt
+    go (wrote n p′ e′) a =
+        let f = wrote-none (insertCauses p e k (d .forPivots) (d .forEdges)) (length (insertedPivots p k)) _ _ n p′ e′ a in
+        let h = none-before (newPivotCauses p e k) _ f in
+        let r = none-after (newPivotCauses p e k) _ f in
+        let m = none-here _ TooManyPivots _ r in
+        let s = not-false _ (none-here _ TooLong _ (none-later _ TooManyPivots _ r)) in
+        subst (Kept p e k) (sym (ends-inserted p e k b g h m s d f) ∙ a) (leaves-inserted p e k b g h m s)
+
+pub inserts : Inserts
+inserts p e k d b g = (inserts-kept p e k d b g, long-as-cuts p e k d)
