@@ -2,7 +2,7 @@
 use mathlib.Core.Path.{_≡_, refl, sym, ap, _∙_}
 use mathlib.Core.Bool.{Bool, true, false, not, _&&_, _||_, true≢false}
 use mathlib.Core.List.{List, [], _∷_, _++_}
-use mathlib.Core.Option.{none, some}
+use mathlib.Core.Option.{Option, none, some}
 use Prim.Native.Nat.{ℕ, _/_, _%_, _<_}
 use native.Mathlib.Omega.{arith}
 use borrow.Author.Tests.{leb-true, leb-false, lt-ltb}
@@ -37,6 +37,17 @@ pub refuses-at : {A : Type 0} (f : Refusal → A) (v : A) (cs : List Cause) (n :
     → RefusesAt f cs n r (outcome f cs v)
 refuses-at f v cs n b r ds e h =
     ap (λ (xs : List Cause). outcome f xs v) (sym (take-append-drop n cs) ∙ ap (_++_ (take n cs)) e) ∙ ends f v (take n cs) b r ds h
+
+-- also where the cause is known to apply only if none before it does
+pub refuses-unless : {A : Type 0} (f : Refusal → A) (v : A) (cs : List Cause) (n : ℕ) (b : Bool) (r : Refusal) (ds : List Cause) → drop n cs ≡ (b ⇒ r) ∷ ds
+    → (first (take n cs) ≡ none → b ≡ true) → RefusesAt f cs n r (outcome f cs v)
+refuses-unless f v cs n b r ds e h = go (first (take n cs)) refl
+  where
+    go : (o : Option Refusal) → first (take n cs) ≡ o → RefusesAt f cs n r (outcome f cs v)
+    go none g = refuses-at f v cs n b r ds e (h g)
+    go (some s) g =
+        ap (λ (xs : List Cause). outcome f xs v) (sym (take-append-drop n cs))
+        ∙ sym (refused-first f v (f s) (take n cs) (drop n cs) s g refl) ∙ refused-by f (f r) (f s) (take n cs) s g refl
 
 -- `ElementIsKey(e)`, of a key: it has more than 64 bytes
 pub not-key-long : (k : Key) → ElementIsKey (key k) ≡ false → tooLong k ≡ true

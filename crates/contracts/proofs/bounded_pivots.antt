@@ -4,3 +4,4 @@ pub mod Keys
 pub mod Slots
 pub mod Cuts
 pub mod Lemmas
+pub mod Insertion
