@@ -16,7 +16,7 @@ use Rattle.model.specs.tables.Tables.{pivotAt, WFPivots, ContainsRange, Route, 
 use Rattle.model.specs.calls.Refusals.{Cause, _⇒_, routing}
 use Rattle.model.proofs.calls.Refusals.{here, later, slot-done}
 use Rattle.model.proofs.tables.Places.{place-most}
-use Rattle.model.proofs.tables.NewPivot.{Strictly, before-range, at-pivot, at-pivot-contained, past-range, in-slot, strictly-route, strictly-contained, strictly-new}
+use Rattle.model.proofs.tables.NewPivot.{before-range, at-pivot, at-pivot-contained, past-range, in-slot, strictly-route, strictly-contained, strictly-new}
 use Rattle.model.proofs.calls.TableCalls.{length-elements, element-at}
 
 module _ (p : List ℕ) (k : Key) (n : ℕ) (wf : WFPivots (elements p) ≡ true) (e : n ≡ lastPlace (passes false (key k)) (elements p)) where

@@ -1,4 +1,4 @@
--- Accepted cuts: what they leave can be lent to the next call, and translates its keys as the table does; and so do several, one after the other.
+-- Accepted cuts: what they leave can be lent to the next call, and translates its keys as the table does; and so do several cuts and insertions, one after the other.
 use mathlib.Core.Path.{_≡_, refl, sym, ap, _∙_}
 use mathlib.Core.Bool.{Bool, true, false, true≢false}
 use mathlib.Core.List.{List}
@@ -17,12 +17,14 @@ use Rattle.model.specs.calls.TableCalls.{tableCauses}
 use Rattle.model.specs.calls.CutCalls.{cutPivots, cutEdges, cutCauses}
 use Rattle.model.specs.calls.TableCalls.{edgeSlotCauses}
 use Rattle.model.specs.cuts.TwoOrders.{Dests, wrote, accepted, cut, TranslatedAlike}
-use Rattle.model.proofs.calls.Refusals.{unrefused, none-here, none-before, none-after}
+use Rattle.model.specs.cuts.Inserted.{insert}
+use Rattle.model.proofs.calls.Refusals.{none-here, none-before, none-after}
 use Rattle.model.proofs.tables.Routing.{wf-all-short}
 use Rattle.model.proofs.calls.TableCalls.{table-wrong, table-wf, table-bytes}
 use Rattle.model.proofs.calls.WrittenTables.{bytes-encodeAll}
 use Rattle.model.proofs.cuts.Sides.{split-bounded, split-bytes}
 use Rattle.model.proofs.cuts.Ends.{wrote-none}
+use Rattle.model.proofs.cuts.Inserted.{insert-leaves, insert-leaves-bytes, insert-bounded-bytes}
 use Rattle.model.proofs.cuts.OneCut.{Cuttable, pivots-back, cut-ends-with, cut-table, cut-alike}
 
 module _ (left : Bool) (k : Key) (d : Dests) (p e : List ℕ) (n : ℕ) (p′ e′ : List ℕ) (a : cut left k d p e ≡ wrote n p′ e′) where
@@ -99,24 +101,33 @@ module _ (left : Bool) (k : Key) (d : Dests) (p e : List ℕ) (n : ℕ) (p′ e�
     pub cut-preserved-bytes : (j : Key) → Bytes j → BoundedKey (elements p′) j ≡ true → TranslatedAlike p e p′ e′ j
     cut-preserved-bytes j h v = rw (cut-wrote-pivots, cut-wrote-edges) (cut-alike was-cuttable was-short j h (rw cut-wrote-elements at v))
 
--- ---- several cuts
+-- ---- several calls
 
--- cuts one after the other, each accepted and of what those before it left
-pub data Cuts (p e : List ℕ) : List ℕ → List ℕ → Type 0 where
-  uncut : Cuts p e p e
-  then-cut : {q f p′ e′ : List ℕ} → Cuts p e q f → (left : Bool) (k : Key) (d : Dests) (n : ℕ) → Bytes k → cut left k d q f ≡ wrote n p′ e′ → Cuts p e p′ e′
+-- cuts and insertions one after the other, each accepted and of what those before it left
+pub data Changed (p e : List ℕ) : List ℕ → List ℕ → Type 0 where
+  unchanged : Changed p e p e
+  then-cut : {q f p′ e′ : List ℕ} → Changed p e q f → (left : Bool) (k : Key) (d : Dests) (n : ℕ) → Bytes k → cut left k d q f ≡ wrote n p′ e′ → Changed p e p′ e′
+  then-inserted : {q f p′ e′ : List ℕ} → Changed p e q f → (k : Key) (d : Dests) (n : ℕ) → Bytes k → insert k d q f ≡ wrote n p′ e′ → Changed p e p′ e′
 
 -- the pivots that they leave are bytes
-cuts-bytes : {p e p′ e′ : List ℕ} → Cuts p e p′ e′ → Bytes p → Bytes p′
-cuts-bytes uncut b = b
-cuts-bytes (then-cut c left k d n g a) b = cut-leaves-bytes left k d _ _ n _ _ a (cuts-bytes c b) g
+changed-bytes : {p e p′ e′ : List ℕ} → Changed p e p′ e′ → Bytes p → Bytes p′
+changed-bytes unchanged b = b
+changed-bytes (then-cut c left k d n g a) b = cut-leaves-bytes left k d _ _ n _ _ a (changed-bytes c b) g
+changed-bytes (then-inserted c k d n g a) b = insert-leaves-bytes _ _ k d n _ _ a (changed-bytes c b) g
 
--- and by what they leave each key that it bounds is translated as by the uncut table, answer and bytes
-pub cuts-preserved : {p e p′ e′ : List ℕ} → Cuts p e p′ e′ → Bytes p → (j : Key) → Bytes j → BoundedKey (elements p′) j ≡ true
+-- what is translated as by q and f, which translate it as by p and e, is translated as by these
+in-turn : (p e q f p′ e′ : List ℕ) (j : Key) → TranslatedAlike p e q f j → TranslatedAlike q f p′ e′ j → TranslatedAlike p e p′ e′ j
+in-turn p e q f p′ e′ j before last x = (last x .0 ∙ before x .0, last x .1 ∙ before x .1)
+
+-- and by what they leave each key that it bounds is translated as by the old table, answer and bytes
+pub changed-preserved : {p e p′ e′ : List ℕ} → Changed p e p′ e′ → Bytes p → (j : Key) → Bytes j → BoundedKey (elements p′) j ≡ true
     → TranslatedAlike p e p′ e′ j
-cuts-preserved uncut b j h v x = (refl, refl)
-cuts-preserved (then-cut c left k d n g a) b j h v x =
-    let bytes = cuts-bytes c b in
-    let last = cut-preserved-bytes left k d _ _ n _ _ a bytes g j h v x in
-    let before = cuts-preserved c b j h (cut-bounded-bytes left k d _ _ n _ _ a bytes g j v) x in
-    (last .0 ∙ before .0, last .1 ∙ before .1)
+changed-preserved unchanged b j h v = λ x. (refl, refl)
+changed-preserved (then-cut c left k d n g a) b j h v =
+    let bytes = changed-bytes c b in
+    in-turn _ _ _ _ _ _ j (changed-preserved c b j h (cut-bounded-bytes left k d _ _ n _ _ a bytes g j v))
+    (cut-preserved-bytes left k d _ _ n _ _ a bytes g j h v)
+changed-preserved (then-inserted c k d n g a) b j h v =
+    let bytes = changed-bytes c b in
+    in-turn _ _ _ _ _ _ j (changed-preserved c b j h (sym (insert-bounded-bytes _ _ k d n _ _ a bytes g j) ∙ v))
+    (insert-leaves _ _ k d n _ _ a bytes g .keys j h)

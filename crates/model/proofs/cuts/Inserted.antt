@@ -1,41 +1,37 @@
 -- What is asked of insertion holds: an accepted one leaves a table that translates and is cut as the old one, and it is refused for length where a cut at the key is.
-use mathlib.Core.Path.{_≡_, refl, sym, ap, subst, _∙_}
-use mathlib.Core.Logic.{_⊎_, inl, inr}
-use mathlib.Core.Bool.{Bool, true, false, not, _&&_, _||_, true≢false}
-use mathlib.Core.List.{List, [], _∷_, _++_}
-use mathlib.Core.Option.{Option, none, some}
-use Prim.Native.Nat.{ℕ, _+_, _*_, _-_, _≤_}
+use mathlib.Core.Path.{_≡_, refl, sym, subst, _∙_}
+use mathlib.Core.Bool.{Bool, true, false}
+use mathlib.Core.List.{List}
+use mathlib.Core.Option.{none}
+use Prim.Native.Nat.{ℕ}
 use native.Mathlib.Omega.{arith}
 use borrow.Author.Tests.{ltb-false, not-false}
 use lib.ListN.{length}
-use Rattle.model.specs.declared.Refusal.{Refusal}
-use Rattle.model.specs.declared.Refusal.the-variants.{OutOfRange, AlreadyPivot, TooManyPivots, TooLong}
+use Rattle.model.specs.declared.Refusal.the-variants.{TooManyPivots, TooLong}
 use Rattle.model.specs.declared.Answer.the-variants as answers
 use Rattle.model.specs.declared.Decided.the-variants as decided
-use Rattle.model.specs.keys.Key.{Key, Bytes, tooLong, maxLen}
-use Rattle.model.specs.keys.Order.{key}
-use Rattle.model.specs.records.Record.{recordSize, elements, edges, encodeAll, encodeEdges}
+use Rattle.model.specs.keys.Key.{Key, Bytes}
+use Rattle.model.specs.records.Record.{elements, edges, encodeAll, encodeEdges}
 use Rattle.model.specs.tables.Tables.{PivotTable, EdgeTable, maxPivots, all, shortEdge, WFPivots, WFEdges, BytesT, BoundedKey, Route}
 use Rattle.model.specs.cuts.Sides.{inside}
-use Rattle.model.specs.cuts.Insertion.{InsertPivot}
-use Rattle.model.specs.calls.Refusals.{Cause, _⇒_, outcome, first, answer, leaves}
-use Rattle.model.specs.calls.TableCalls.{tableCauses, edgeSlotCauses, wfEdgesAnswer}
-use Rattle.model.specs.calls.CutCalls.{cutPivots, cutEdges, writeCauses, cutCauses}
+use Rattle.model.specs.calls.Refusals.{first}
+use Rattle.model.specs.calls.TableCalls.{tableCauses, edgeSlotCauses}
+use Rattle.model.specs.calls.CutCalls.{cutPivots, cutEdges}
 use Rattle.model.specs.calls.InsertionCalls.{insertedPivots, insertedEdges, newPivotCauses, tooManyPivots, insertCauses}
 use Rattle.model.specs.cuts.TwoOrders.{Dests, End, wrote, refused, TranslatedAlike}
-use Rattle.model.specs.cuts.Inserted.{insert, CutAlike, Inserted, Kept, LongAsCuts, Inserts}
-use Rattle.model.proofs.calls.Refusals.{passed, after, followed, none-here, none-later, none-before, none-after}
-use Rattle.model.proofs.calls.TableCalls.{table-wf, table-wrong, table-most, table-edges, table-bytes}
-use Rattle.model.proofs.calls.WrittenTables.{wf-table-causes}
+use Rattle.model.specs.cuts.Inserted.{insert, CutAlike, Inserted, Kept, Inserts}
+use Rattle.model.proofs.calls.Refusals.{passed, followed, none-here, none-later, none-before, none-after}
+use Rattle.model.proofs.calls.TableCalls.{table-wf, table-wrong, table-edges, table-bytes}
+use Rattle.model.proofs.calls.WrittenTables.{wf-table-causes, bytes-encodeAll}
 use Rattle.model.proofs.calls.Alike.{slot-first, alike, alike-outside}
-use Rattle.model.proofs.calls.InsertionCalls.{insert-table, insert-strictly, insert-key, insert-found}
+use Rattle.model.proofs.calls.InsertionCalls.{insert-table, insert-strictly, insert-key}
 use Rattle.model.proofs.records.Records.{length-encodeAll, length-encodeEdges, elements-encodeAll, edges-encodeEdges}
 use Rattle.model.proofs.tables.Routing.{wf-all-short}
 use Rattle.model.proofs.tables.NewPivot.{strictly-inside}
 use Rattle.model.proofs.cuts.CutEdges.{edges-say}
 use Rattle.model.proofs.cuts.Ends.{ends-wrote, wrote-none}
 use Rattle.model.proofs.cuts.LongInsertion.{long-as-cuts}
-use Rattle.model.proofs.cuts.Insertion.{insert-length, insert-wf, insert-edges-wf, insert-inside, insert-split, insert-split-edges, insert-bounded, insert-preserved}
+use Rattle.model.proofs.cuts.Insertion.{insert-length, insert-wf, insert-edges-wf, insert-bytes, insert-inside, insert-split, insert-split-edges, insert-bounded, insert-preserved}
 
 -- ---- an accepted insertion
 
@@ -67,6 +63,9 @@ module _ (p e : List ℕ) (k : Key) (b : Bytes p) (g : Bytes k) (h : first (newP
 
   new-fits : WFEdges et pt ≡ true
   new-fits = insert-edges-wf (elements p) k wf c (insert-strictly p e k h) (insert-key p e k h) bytes g (edges e) fits
+
+  new-bytes : BytesT pt
+  new-bytes = insert-bytes (elements p) k wf c (insert-strictly p e k h) (insert-key p e k h) bytes g (edges e) fits
 
   pivots-back : elements (encodeAll pt) ≡ pt
   pivots-back = elements-encodeAll pt (wf-all-short pt new-wf)
@@ -140,19 +139,45 @@ module _ (p e : List ℕ) (k : Key) (b : Bytes p) (g : Bytes k) (h : first (newP
       let l = length-encodeEdges et s in
       ends-wrote _ _ _ _ _ _ f (sym (length-encodeAll pt (wf-all-short pt new-wf))) (omega arith)
 
--- where an insertion ends
-inserts-kept : (p e : List ℕ) (k : Key) (d : Dests) → Bytes p → Bytes k → Kept p e k (insert k d p e)
-inserts-kept p e k d b g = go (insert k d p e) refl
+-- by its call: it ended with n pivots, in the records p′ and e′
+module _ (p e : List ℕ) (k : Key) (d : Dests) (n : ℕ) (p′ e′ : List ℕ) (a : insert k d p e ≡ wrote n p′ e′) where
+  no-cause : first (insertCauses p e k (d .forPivots) (d .forEdges)) ≡ none
+  no-cause = wrote-none (insertCauses p e k (d .forPivots) (d .forEdges)) (length (insertedPivots p k)) _ _ n p′ e′ a
+
+  was-new : first (newPivotCauses p e k) ≡ none
+  was-new = none-before (newPivotCauses p e k) _ no-cause
+
+  was-few : tooManyPivots (insertedPivots p k) ≡ false
+  was-few = none-here _ TooManyPivots _ (none-after (newPivotCauses p e k) _ no-cause)
+
+  was-short : all shortEdge (insertedEdges p e k) ≡ true
+  was-short = not-false _ (none-here _ TooLong _ (none-later _ TooManyPivots _ (none-after (newPivotCauses p e k) _ no-cause)))
+
+  module _ (b : Bytes p) (g : Bytes k) where
+    -- so it wrote the records of its pivots and edges
+    was-written : wrote (length (insertedPivots p k)) (encodeAll (insertedPivots p k)) (encodeEdges (insertedEdges p e k)) ≡ wrote n p′ e′
+    was-written = sym (ends-inserted p e k b g was-new was-few was-short d no-cause) ∙ a
+
+    -- what it leaves is what is asked
+    pub insert-leaves : Inserted p e k n p′ e′
+    insert-leaves = subst (Kept p e k) was-written (leaves-inserted p e k b g was-new was-few was-short)
+
+    -- its pivots are again bytes
+    pub insert-leaves-bytes : Bytes p′
+    insert-leaves-bytes =
+        let w : encodeAll (insertedPivots p k) ≡ p′ = let v = was-written in cc in
+        rw (← w) (bytes-encodeAll _ (wf-all-short _ (new-wf p e k b g was-new was-few was-short)) (new-bytes p e k b g was-new was-few was-short))
+
+    -- and bound the same keys
+    pub insert-bounded-bytes : (j : Key) → BoundedKey (elements p′) j ≡ BoundedKey (elements p) j
+    insert-bounded-bytes j =
+        rw (insert-leaves .pivots, ← pivots-back p e k b g was-new was-few was-short) (same-keys p e k b g was-new was-few was-short j)
+
+-- ---- the claim
+
+pub inserts : Inserts
+inserts p e k d b g = (go (insert k d p e) refl, long-as-cuts p e k d)
   where
     go : (x : End) → insert k d p e ≡ x → Kept p e k x
     go (refused r) a = tt
-    go (wrote n p′ e′) a =
-        let f = wrote-none (insertCauses p e k (d .forPivots) (d .forEdges)) (length (insertedPivots p k)) _ _ n p′ e′ a in
-        let h = none-before (newPivotCauses p e k) _ f in
-        let r = none-after (newPivotCauses p e k) _ f in
-        let m = none-here _ TooManyPivots _ r in
-        let s = not-false _ (none-here _ TooLong _ (none-later _ TooManyPivots _ r)) in
-        subst (Kept p e k) (sym (ends-inserted p e k b g h m s d f) ∙ a) (leaves-inserted p e k b g h m s)
-
-pub inserts : Inserts
-inserts p e k d b g = (inserts-kept p e k d b g, long-as-cuts p e k d)
+    go (wrote n p′ e′) a = insert-leaves p e k d n p′ e′ a b g

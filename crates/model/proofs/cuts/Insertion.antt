@@ -1,23 +1,22 @@
 -- Insertion of a pivot: what it makes is the left and the right cut at the key together. So it is well formed, its cuts at the key are those of the table, and it translates each key as the table does.
 use mathlib.Core.Path.{_≡_, refl, sym, _∙_}
 use mathlib.Core.Bool.{Bool, true, false, not}
-use mathlib.Core.List.{[], _∷_, _++_, append-assoc}
+use mathlib.Core.List.{_++_, append-assoc}
 use Prim.Native.Nat.{ℕ, _+_, _≤_}
 use native.Mathlib.Omega.{arith}
 use lib.ListN.{length, take, drop, length-append, length-drop}
 use lib.Seq.{length-take-le}
 use Rattle.model.specs.keys.Key.{Key, Bytes, maxLen}
-use Rattle.model.specs.keys.Order.{key, lte, lt}
-use Rattle.model.specs.tables.Tables.{PivotTable, EdgeTable, pivotAt, lastPivot, WFPivots, WFEdges, BytesT, BoundedKey, CutoffForLeft, CutoffForRight, Route}
+use Rattle.model.specs.keys.Order.{key, lte}
+use Rattle.model.specs.tables.Tables.{PivotTable, EdgeTable, pivotAt, lastPivot, WFPivots, WFEdges, BytesT, BoundedKey}
 use Rattle.model.specs.cuts.Cuts.{SplitLeft, SplitRight, SplitLeftEdges, SplitRightEdges}
-use Rattle.model.specs.cuts.Sides.{inside, cutoff, Split, SplitEdges}
+use Rattle.model.specs.cuts.Sides.{inside, Split, SplitEdges}
 use Rattle.model.specs.cuts.Insertion.{InsertPivot, InsertPivotEdges}
 use Rattle.model.specs.translation.Translation.{TranslateKey}
-use Rattle.model.proofs.keys.Order.{false-lt}
 use Rattle.model.proofs.tables.NewPivot.{Strictly, strictly-route, strictly-cutoff, strictly-inside}
 use Rattle.model.proofs.cuts.Cuts.{split-left-first, split-left-bounded, split-right-last, split-right-bounded}
 use Rattle.model.proofs.cuts.Sides.{split-wf, split-bytes, split-edges-wf, split-preserved}
-use Rattle.model.proofs.cuts.Meeting.{Meeting, half, halfEdges, whole-length, whole-wf, whole-edges-wf, whole-bytes, whole-inside, whole-split, whole-split-edges}
+use Rattle.model.proofs.cuts.Meeting.{Meeting, half, whole-wf, whole-edges-wf, whole-bytes, whole-inside, whole-split, whole-split-edges}
 
 module _ (pt : PivotTable) (k : Key) (w : WFPivots pt ≡ true) (c : ℕ) (s : Strictly pt c k) where
   -- the table with the key

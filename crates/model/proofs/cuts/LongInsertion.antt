@@ -1,14 +1,13 @@
 -- Insertion is refused with 8 where a cut at the key is, unless 11 or 12 comes first, and nowhere else.
 use mathlib.Core.Path.{_≡_, refl, sym, _∙_}
 use mathlib.Core.Logic.{_⊎_, inl, inr, ⊎-elim}
-use mathlib.Core.Bool.{Bool, true, false, not, _&&_, and-false}
+use mathlib.Core.Bool.{Bool, true, false, _&&_, and-false}
 use mathlib.Core.List.{List, [], _∷_, _++_}
 use mathlib.Core.Option.{none, some}
 use Prim.Native.Nat.{ℕ, _*_}
 use native.Mathlib.Omega.{arith}
 use lib.ListN.{length}
-use Rattle.model.specs.declared.Refusal.{Refusal}
-use Rattle.model.specs.declared.Refusal.the-variants.{OutOfRange, AlreadyPivot, TooManyPivots, TooLong}
+use Rattle.model.specs.declared.Refusal.the-variants.{AlreadyPivot, TooManyPivots, TooLong}
 use Rattle.model.specs.declared.Answer.the-variants as answers
 use Rattle.model.specs.keys.Key.{Key, tooLong}
 use Rattle.model.specs.keys.Order.{key, lte, lt}
@@ -16,9 +15,9 @@ use Rattle.model.specs.records.Record.{recordSize, elements, edges}
 use Rattle.model.specs.tables.Tables.{PivotTable, EdgeTable, pivotAt, lastPivot, all, shortEdge, ContainsRange, BoundedKey, ValidLeftCutOffKey, isPivot}
 use Rattle.model.specs.cuts.Sides.{inside}
 use Rattle.model.specs.inner.CutSlot.{cutSlotEdge}
-use Rattle.model.specs.calls.Refusals.{Cause, _⇒_, outcome, first, answer}
+use Rattle.model.specs.calls.Refusals.{Cause, _⇒_, outcome, first}
 use Rattle.model.specs.calls.TableCalls.{pivotCauses, tableCauses, edgeSlotCauses}
-use Rattle.model.specs.calls.CutCalls.{cutPivots, cutEdges, roomCauses, writeCauses, cutCauses}
+use Rattle.model.specs.calls.CutCalls.{cutPivots, cutEdges, roomCauses, writeCauses}
 use Rattle.model.specs.calls.InsertionCalls.{insertedPivots, insertedEdges, newPivotCauses, tooManyPivots, insertAnswer}
 use Rattle.model.specs.cuts.TwoOrders.{Dests}
 use Rattle.model.specs.cuts.Inserted.{longInsert, longCut, LongAsCuts}

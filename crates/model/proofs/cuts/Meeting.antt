@@ -2,21 +2,21 @@
 use mathlib.Core.Path.{_≡_, refl, sym, ap, _∙_}
 use mathlib.Core.Bool.{Bool, true, false, _&&_, and-true}
 use mathlib.Core.List.{[], _∷_, _++_}
-use Prim.Native.Nat.{ℕ, suc, _+_, _-_, _≤_, _<_}
+use Prim.Native.Nat.{ℕ, suc, _+_, _-_, _≤_}
 use native.Mathlib.Numerals.{add-one}
 use native.Mathlib.Omega.{arith}
 use borrow.Author.Tests.{eq-eqb}
 use lib.Dec.{eqb}
-use lib.ListN.{length, take, drop, length-append}
+use lib.ListN.{length, drop, length-append}
 use lib.Seq.{take-append-seam, drop-append-seam, getD-at}
 use Rattle.model.specs.keys.Key.{Key}
-use Rattle.model.specs.keys.Order.{Element, key, max, lte, lt}
+use Rattle.model.specs.keys.Order.{Element, key, max, lt}
 use Rattle.model.specs.ranges.RangePrefix.{PivotLcp}
-use Rattle.model.specs.tables.Tables.{PivotTable, EdgeTable, NumBuckets, pivotAt, all, shortElement, risesFrom, IsStrictlySorted, WFPivots, edgeFits, edgesFit, WFEdges, BytesT, Route, CutoffForLeft, CutoffForRight}
+use Rattle.model.specs.tables.Tables.{PivotTable, EdgeTable, pivotAt, all, shortElement, risesFrom, IsStrictlySorted, WFPivots, edgeFits, edgesFit, WFEdges, BytesT, CutoffForLeft, CutoffForRight}
 use Rattle.model.specs.cuts.Cuts.{SplitLeft, SplitRight}
-use Rattle.model.specs.cuts.Sides.{inside, cutoff, Split, SplitEdges}
+use Rattle.model.specs.cuts.Sides.{inside, Split, SplitEdges}
 use Rattle.model.proofs.Lists.{all-append}
-use Rattle.model.proofs.keys.Order.{lte-refl, lt-lte}
+use Rattle.model.proofs.keys.Order.{lte-refl}
 use Rattle.model.proofs.keys.Key.{both}
 use Rattle.model.proofs.tables.Places.{sorted-at}
 use Rattle.model.proofs.tables.Routing.{wf-sorted, slot-bounded, slot-is-route, cutoff-right-is-route, cutoff-left-valid, cutoff-left-is}

@@ -1,29 +1,26 @@
 -- One cut by its call, on the left or the right: where it ends, and that what it writes is a table again, which translates its keys as the uncut one does.
 use mathlib.Core.Path.{_≡_, refl, sym, _∙_}
-use mathlib.Core.Bool.{Bool, true, false, cond, _||_}
+use mathlib.Core.Bool.{Bool, true, false}
 use mathlib.Core.List.{List}
 use mathlib.Core.Option.{none, some}
-use Prim.Native.Nat.{ℕ, _*_, _-_, _≤_}
+use Prim.Native.Nat.{ℕ, _*_, _≤_}
 use native.Mathlib.Omega.{arith}
 use borrow.Author.Tests.{le-ltb}
 use lib.ListN.{length}
-use Rattle.model.specs.declared.Refusal.{Refusal}
-use Rattle.model.specs.declared.Refusal.the-variants.{TooLong, NoRoom}
+use Rattle.model.specs.declared.Refusal.the-variants.{NoRoom}
 use Rattle.model.specs.declared.Answer.the-variants as answers
 use Rattle.model.specs.keys.Key.{Key, Bytes, maxLen}
 use Rattle.model.specs.records.Record.{recordSize, elements, edges, encodeAll, encodeEdges}
 use Rattle.model.specs.tables.Tables.{PivotTable, EdgeTable, all, shortEdge, WFPivots, WFEdges, BoundedKey, BytesT}
 use Rattle.model.specs.cuts.Sides.{inside}
-use Rattle.model.specs.calls.Refusals.{Cause, outcome, first, answer, leaves, over}
-use Rattle.model.specs.calls.KeyCalls.{noRoom}
+use Rattle.model.specs.calls.Refusals.{first}
 use Rattle.model.specs.calls.TableCalls.{tableCauses}
 use Rattle.model.specs.calls.CutCalls.{cutPivots, cutEdges, writeCauses, cutCauses}
 use Rattle.model.specs.calls.TableCalls.{edgeSlotCauses}
-use Rattle.model.specs.cuts.TwoOrders.{Dests, End, wrote, refused, endOf, cut, TranslatedAlike}
-use Rattle.model.proofs.Lists.{take-over}
-use Rattle.model.proofs.calls.Refusals.{refused-by, passed, after}
+use Rattle.model.specs.cuts.TwoOrders.{Dests, refused, cut, TranslatedAlike}
+use Rattle.model.proofs.calls.Refusals.{after}
 use Rattle.model.proofs.tables.Routing.{wf-all-short}
-use Rattle.model.proofs.records.Records.{length-encodeAll, length-encodeEdges, elements-encodeAll, edges-encodeEdges}
+use Rattle.model.proofs.records.Records.{elements-encodeAll, edges-encodeEdges}
 use Rattle.model.proofs.cuts.CutEdges.{edges-say}
 use Rattle.model.proofs.cuts.Ends.{full, endBy, endWith, write-ends}
 use Rattle.model.proofs.calls.TableCalls.{table-wf, table-most, table-edges, not-too-long}

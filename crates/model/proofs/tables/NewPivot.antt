@@ -15,7 +15,7 @@ use Rattle.model.proofs.Lists.{le-or-lt}
 use Rattle.model.proofs.keys.Order.{lt-false, false-lt, lt-lte, lte-trans, lt-trans-lte, lte-trans-lt}
 use Rattle.model.proofs.keys.Key.{both}
 use Rattle.model.proofs.tables.Places.{sorted-lte, place-most, place-passes, place-after}
-use Rattle.model.proofs.tables.Insertable.{Gap, gap-insertable}
+use Rattle.model.proofs.tables.Insertable.{gap-insertable}
 use Rattle.model.proofs.tables.Routing.{wf-sorted, wf-count, route-inside, route-from, route-below, slot-bounded, slot-is-route, cutoff-right-is-route, cutoff-left-valid, cutoff-left-is}
 
 -- ---- which keys are pivots
