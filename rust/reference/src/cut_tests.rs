@@ -3,16 +3,17 @@ use crate::test_tables::{field, max, no_edge, record, t, table};
 use crate::*;
 use Refusal::*;
 
-type Split = fn(&[u8], &[u8], &[u8], &mut [u8], &mut [u8]) -> Result<usize, Refusal>;
+pub type Split = fn(&[u8], &[u8], &[u8], &mut [u8], &mut [u8]) -> Result<usize, Refusal>;
 
 /// What a cut answers, and the pivots and edges that it leaves in destinations with room to
 /// spare. No other byte may change.
-fn cut(
+pub fn cut(
     split: Split,
     table: &(Vec<u8>, Vec<u8>),
     key: &[u8],
 ) -> Result<(Vec<u8>, Vec<u8>), Refusal> {
-    let (mut pivots, mut edges) = (vec![7; 500], vec![9; 500]);
+    let room = MAX_PIVOTS * RECORD_SIZE;
+    let (mut pivots, mut edges) = (vec![7; room], vec![9; room]);
     let result = split(&table.0, &table.1, key, &mut pivots, &mut edges);
     let written = result.map_or((0, 0), |pivots| (66 * pivots, 66 * (pivots - 1)));
     assert!(pivots[written.0..].iter().all(|&b| b == 7));
@@ -22,7 +23,7 @@ fn cut(
     result.map(|_| (pivots, edges))
 }
 
-fn translated(table: &(Vec<u8>, Vec<u8>), key: &[u8]) -> Result<Vec<u8>, Refusal> {
+pub fn translated(table: &(Vec<u8>, Vec<u8>), key: &[u8]) -> Result<Vec<u8>, Refusal> {
     let mut dest = [7; 70];
     let length = translate_key(&table.0, &table.1, key, &mut dest);
     assert!(dest[length.unwrap_or(0)..].iter().all(|&b| b == 7));
@@ -112,7 +113,7 @@ fn produced_keys_of_64_and_65_bytes() {
 }
 
 /// The refusal, with destinations of these lengths that must stay as they are.
-fn refused(split: Split, p: &[u8], e: &[u8], key: &[u8], dests: (usize, usize)) -> Refusal {
+pub fn refused(split: Split, p: &[u8], e: &[u8], key: &[u8], dests: (usize, usize)) -> Refusal {
     let (mut pivots, mut edges) = (vec![7; dests.0], vec![9; dests.1]);
     let refusal = split(p, e, key, &mut pivots, &mut edges).unwrap_err();
     assert_eq!((pivots, edges), (vec![7; dests.0], vec![9; dests.1]));
@@ -135,7 +136,7 @@ fn both_destinations_are_measured_first() {
 }
 
 #[test]
-fn the_smallest_number_over_all_arguments() {
+fn the_first_cause_over_all_arguments() {
     let (p, e) = t();
     let falling = table(&[&[0x42], &[0x41], &[0x43]]);
     let apart = table(&[&[0x41], &[0x43], &[0x44]]);

@@ -1,7 +1,8 @@
-//! The cuts of a table with its edges: SplitLeft with SplitLeftEdges, and the right ones.
+//! The cuts of a table with its edges: SplitLeft with SplitLeftEdges, and the right ones; and a key
+//! put in as a pivot.
 use crate::record::{put_all, Edge, Element, MAX_LEN, RECORD_SIZE};
 use crate::refusal::{refuse_if, Refusal};
-use crate::table::Pivots;
+use crate::table::{Pivots, MAX_PIVOTS};
 use crate::table_calls::table_and_key;
 
 /// What becomes of the edge of a slot that is cut: the old edge, "followed by what the new
@@ -68,4 +69,27 @@ pub fn split_right(
     let edge = cut_edge(edges[slot], pivots.slot_prefix(slot), cut.slot_prefix(0));
     let cut_edges = [&[produced(&edge)?], &edges[slot + 1..]].concat();
     put(cut.all(), &cut_edges, dest_pivots, dest_edges)
+}
+
+/// Puts the key in as a new pivot. The halves of its slot have the edges that cuts at the key give
+/// them; all others stay. Answers the pivots written.
+pub fn insert_pivot(
+    pivots: &[u8],
+    edges: &[u8],
+    key: &[u8],
+    dest_pivots: &mut [u8],
+    dest_edges: &mut [u8],
+) -> Result<usize, Refusal> {
+    let (old, edges, key) = table_and_key(pivots, edges, key)?;
+    refuse_if(key < old.first() || old.last() < key, Refusal::OutOfRange)?;
+    refuse_if(old.all().contains(&key), Refusal::AlreadyPivot)?;
+    refuse_if(old.all().len() == MAX_PIVOTS, Refusal::TooManyPivots)?;
+    let slot = old.route(key)?;
+    let (below, above) = old.all().split_at(slot + 1);
+    let new = Pivots::rising([below, &[key], above].concat())?;
+    let half = |half| cut_edge(edges[slot], old.slot_prefix(slot), new.slot_prefix(half));
+    let (left, right) = (half(slot), half(slot + 1));
+    let halves = [produced(&left)?, produced(&right)?];
+    let new_edges = [&edges[..slot], &halves, &edges[slot + 1..]].concat();
+    put(new.all(), &new_edges, dest_pivots, dest_edges)
 }

@@ -73,7 +73,7 @@ mod tests {
     }
 
     #[test]
-    fn refuses_a_change_in_the_order_of_the_numbers() {
+    fn refuses_a_change_in_the_order_of_causes() {
         let mut dest = [7; 64];
         let long = [1; 65];
         let mut change = |key, old, new, room| change_prefix(key, old, new, &mut dest[..room]);

@@ -2,8 +2,8 @@
 //! words. The archive is compared with it; it shares no code with the archive or its wrapper.
 //!
 //! A call reads its bytes into `Element`, `Edge` and `Entry` values first, and a `?` for each
-//! cause stands in the order of the refusals' numbers: cause 1 of every argument, then cause 2 of
-//! every argument, and so on.
+//! cause stands in the call's order of causes: cause 1 of every argument, then cause 2 of every
+//! argument, and so on. The order is 1, 2, 3, 4, 5, 11, 12, 6, 7, 8, 9, 10.
 #![forbid(unsafe_code)]
 
 #[cfg(test)]
@@ -14,6 +14,8 @@ mod cut_tests;
 mod cuts;
 mod entry;
 mod image;
+#[cfg(test)]
+mod insert_tests;
 mod keys;
 mod list;
 #[cfg(test)]
@@ -41,7 +43,7 @@ mod translation;
 mod upper_bound;
 
 pub use buckets::{translate_bucket, translate_bucket_will_fit, MAX_ENTRIES};
-pub use cuts::{split_left, split_right};
+pub use cuts::{insert_pivot, split_left, split_right};
 pub use entry::ENTRY_SIZE;
 pub use keys::{change_prefix, compare, entry_key, pivot_key};
 pub use list::list_table;

@@ -177,7 +177,7 @@ fn lengths_of_records_and_destinations() {
 }
 
 #[test]
-fn the_smallest_number_over_all_arguments() {
+fn the_first_cause_over_all_arguments() {
     let (a, b) = (pair(&[0x41], &[0x50; 64]), pair(&[0x42], &[0x60]));
     let compose = |a: &[u8], b: &[u8]| compose_pairs(a, b, &mut []);
     assert_eq!(compose(&with(&a, 0, 9), &b[1..]), Err(Shape));
@@ -219,7 +219,7 @@ fn no_pair_of_a_table_is_too_long() {
 }
 
 #[test]
-fn the_smallest_number_over_a_table() {
+fn the_first_cause_over_a_table() {
     let (p, e) = t();
     let falling = table(&[&[0x42], &[0x41], &[0x43]]);
     let apart = table(&[&[0x41], &[0x43], &[0x44]]);

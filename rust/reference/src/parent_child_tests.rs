@@ -87,7 +87,7 @@ fn a_right_bound_of_65_bytes() {
 }
 
 #[test]
-fn the_smallest_number_over_all_tables() {
+fn the_first_cause_over_all_tables() {
     let (p, e) = t();
     let all = [record(&[]), max()].concat();
     let falling = table(&[&[0x42], &[0x41], &[0x43]]);

@@ -1,4 +1,4 @@
-//! The ten refusals of document 01.
+//! The twelve refusals. Each call has an order of its causes, in which 11 and 12 come after 5.
 
 #[derive(Clone, Copy, Debug, PartialEq, Eq)]
 pub enum Refusal {
@@ -12,6 +12,8 @@ pub enum Refusal {
     TooLong = 8,
     NotBelow = 9,
     NoRoom = 10,
+    AlreadyPivot = 11,
+    TooManyPivots = 12,
 }
 
 impl Refusal {

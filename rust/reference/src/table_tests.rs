@@ -70,7 +70,7 @@ fn an_edge_needs_a_prefix() {
 }
 
 #[test]
-fn the_smallest_number_over_all_arguments() {
+fn the_first_cause_over_all_arguments() {
     let (pivots, long) = (table(&[&[2], &[1]]), [0; 65]);
     assert_eq!(route(&pivots, &long), Err(Malformed));
     assert_eq!(route(&pivots, &[5]), Err(Unsorted));
