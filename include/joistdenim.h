@@ -2,7 +2,8 @@
  * joistdenim: keys of 0 to 64 bytes in order. Link with libjoistdenim.a.
  *
  * One rule for every function:
- * - It returns 0, or the number of the first refusal that applies over all arguments.
+ * - It returns 0, or the number of the first refusal that applies over all arguments, in the
+ *   order in which the function names them, which is 1, 2, 3, 4, 5, 11, 12, 6, 7, 8, 9, 10.
  * - What it answers goes through the last parameter, a pointer to one number.
  *   A refusal leaves that number, like every lent byte, as it was.
  * - A slice is a pointer and a length in bytes. A slice that is written overlaps nothing else
@@ -48,16 +49,18 @@
 #define JD_MAX 65535
 
 enum jd_refusal {
-    JD_SHAPE = 1,        /* a slice isn't the records, entries or pair it should be */
-    JD_MALFORMED = 2,    /* a malformed record or pair, a wrong mark, or a key over 64 bytes */
-    JD_UNSORTED = 3,     /* pivots don't rise strictly */
-    JD_EMPTY_PREFIX = 4, /* an edge where the range's prefix is empty */
-    JD_OUT_OF_RANGE = 5, /* the key is outside the table's range */
-    JD_NO_SUCH_SLOT = 6, /* no such slot, or no key at that place */
-    JD_NOT_PREFIX = 7,   /* an old prefix doesn't begin what it must */
-    JD_TOO_LONG = 8,     /* a produced key or prefix passes 64 bytes */
-    JD_NOT_BELOW = 9,    /* left isn't below right, or the last new pivot isn't below the end */
-    JD_NO_ROOM = 10      /* a destination is too short */
+    JD_SHAPE = 1,           /* a slice isn't the records, entries or pair it should be */
+    JD_MALFORMED = 2,       /* a malformed record or pair, a wrong mark, or a key over 64 bytes */
+    JD_UNSORTED = 3,        /* pivots don't rise strictly */
+    JD_EMPTY_PREFIX = 4,    /* an edge where the range's prefix is empty */
+    JD_OUT_OF_RANGE = 5,    /* the key is outside the table's range */
+    JD_NO_SUCH_SLOT = 6,    /* no such slot, or no key at that place */
+    JD_NOT_PREFIX = 7,      /* an old prefix doesn't begin what it must */
+    JD_TOO_LONG = 8,        /* a produced key or prefix passes 64 bytes */
+    JD_NOT_BELOW = 9,       /* left isn't below right, or the last new pivot isn't below the end */
+    JD_NO_ROOM = 10,        /* a destination is too short */
+    JD_ALREADY_PIVOT = 11,  /* the key is already a pivot */
+    JD_TOO_MANY_PIVOTS = 12 /* the table would have more than 64 pivots */
 };
 
 #ifdef __cplusplus
@@ -131,8 +134,7 @@ uint32_t jd_pivot_insertable(const uint8_t *pivots, size_t pivots_len, uint64_t 
 
 /* The length of the key at this place; it begins at byte 2 of the place's record.
  * Refuses JD_SHAPE, JD_MALFORMED, JD_UNSORTED, JD_NO_SUCH_SLOT (max stands there, too). */
-uint32_t jd_get_key(const uint8_t *pivots, size_t pivots_len, uint64_t place,
-                    uint64_t *length);
+uint32_t jd_get_key(const uint8_t *pivots, size_t pivots_len, uint64_t place, uint64_t *length);
 
 /* Writes the first table, the empty key and max; answers 2. Refuses JD_NO_ROOM. */
 uint32_t jd_init_pivot_table(uint8_t *dest, size_t dest_len, uint64_t *written);
@@ -152,14 +154,13 @@ uint32_t jd_cutoff_for_left(const uint8_t *pivots, size_t pivots_len,
 uint32_t jd_cutoff_for_right(const uint8_t *pivots, size_t pivots_len,
                              const uint8_t *key, size_t key_len, uint64_t *slot);
 
-/* ---- Cuts of a table with its edges, into two destinations, and the translation of a key. A
- * refusal writes to neither destination. */
+/* ---- Cuts of a table with its edges, a new pivot in it, and the translation of a key. A table is
+ * written into two destinations; the answer is the pivots written, the edges are one fewer. */
 
-/* Cuts off what lies from the key on: writes the pivots below the key and the key, and the
- * edges of these slots. The edge of the slot that is cut goes on with what the range's prefix
- * gains. The key is above the first pivot and not above the last. Answers the pivots written;
- * the edges written are one fewer. Refuses JD_SHAPE, JD_MALFORMED, JD_UNSORTED,
- * JD_EMPTY_PREFIX, JD_OUT_OF_RANGE, JD_TOO_LONG, JD_NO_ROOM. */
+/* Cuts off what lies from the key on: writes the pivots below the key and the key, and the edges
+ * of these slots. The edge of the slot that is cut goes on with what the range's prefix gains.
+ * The key is above the first pivot and not above the last. Refuses JD_SHAPE, JD_MALFORMED,
+ * JD_UNSORTED, JD_EMPTY_PREFIX, JD_OUT_OF_RANGE, JD_TOO_LONG, JD_NO_ROOM. */
 uint32_t jd_split_left(const uint8_t *pivots, size_t pivots_len,
                        const uint8_t *edges, size_t edges_len,
                        const uint8_t *key, size_t key_len,
@@ -168,12 +169,22 @@ uint32_t jd_split_left(const uint8_t *pivots, size_t pivots_len,
 
 /* Cuts off what lies below the key: writes the key and the pivots above it, and the edges of
  * these slots, the first one's as in jd_split_left. The key is not below the first pivot and
- * below the last. Answers and refuses as jd_split_left does. */
+ * below the last. Refuses as jd_split_left does. */
 uint32_t jd_split_right(const uint8_t *pivots, size_t pivots_len,
                         const uint8_t *edges, size_t edges_len,
                         const uint8_t *key, size_t key_len,
                         uint8_t *dest_pivots, size_t dest_pivots_len,
                         uint8_t *dest_edges, size_t dest_edges_len, uint64_t *written);
+
+/* Puts the key in as a new pivot: writes the pivots with it in order, and the edges, of which the
+ * two halves of its slot have those that cuts at the key give them. The key is between the first
+ * pivot and the last. Refuses JD_SHAPE, JD_MALFORMED, JD_UNSORTED, JD_EMPTY_PREFIX,
+ * JD_OUT_OF_RANGE, JD_ALREADY_PIVOT (any of them), JD_TOO_MANY_PIVOTS, JD_TOO_LONG, JD_NO_ROOM. */
+uint32_t jd_insert_pivot(const uint8_t *pivots, size_t pivots_len,
+                         const uint8_t *edges, size_t edges_len,
+                         const uint8_t *key, size_t key_len,
+                         uint8_t *dest_pivots, size_t dest_pivots_len,
+                         uint8_t *dest_edges, size_t dest_edges_len, uint64_t *written);
 
 /* Writes the key with its slot's edge in place of the range's prefix, or the key itself where
  * the slot has no edge; answers its length. Refuses JD_SHAPE, JD_MALFORMED, JD_UNSORTED,

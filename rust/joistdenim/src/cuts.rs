@@ -1,4 +1,4 @@
-//! The cuts of a table with its edges, and the translation of a key in it.
+//! The cuts of a table with its edges, a new pivot in it, and the translation of a key.
 use crate::lend::lend;
 use crate::raw;
 use crate::refusal::Refusal;
@@ -56,6 +56,40 @@ pub fn split_right(
     dest_edges: &mut [u8],
 ) -> Result<usize, Refusal> {
     let written = lend!(raw::jd_split_right, pivots, edges, key; dest_pivots, dest_edges)?;
+    Ok(written as usize)
+}
+
+/// Puts the key in as a new pivot: writes the pivots with it in order, and the edges. The two
+/// halves of its slot have the edges that cuts at the key give them; all others stay. Answers the
+/// pivots written, one more than there were; the edges written are one fewer.
+/// Refuses 1, 2, 3, 4, 5, 11 (any of the pivots), 12, 8, 10.
+///
+/// ```
+/// use joistdenim::{get_key, init_pivot_table, insert_pivot, Refusal, RECORD_SIZE};
+///
+/// // The first table, from the empty key to max; its one slot has no edge.
+/// let (mut pivots, mut edges) = ([0; 2 * RECORD_SIZE], [0; RECORD_SIZE]);
+/// init_pivot_table(&mut pivots)?;
+/// edges[..2].copy_from_slice(&[0xFF, 0xFE]);
+///
+/// let (mut new, mut new_edges) = ([0; 3 * RECORD_SIZE], [0; 2 * RECORD_SIZE]);
+/// let written = insert_pivot(&pivots, &edges, &[0x41], &mut new, &mut new_edges)?;
+/// assert_eq!(written, 3);
+/// assert_eq!(get_key(&new, 1)?, [0x41]);
+/// assert_eq!(new_edges[..], edges.repeat(2));
+///
+/// let again = insert_pivot(&new, &new_edges, &[0x41], &mut [], &mut []);
+/// assert_eq!(again, Err(Refusal::AlreadyPivot));
+/// # Ok::<(), joistdenim::Refusal>(())
+/// ```
+pub fn insert_pivot(
+    pivots: &[u8],
+    edges: &[u8],
+    key: &[u8],
+    dest_pivots: &mut [u8],
+    dest_edges: &mut [u8],
+) -> Result<usize, Refusal> {
+    let written = lend!(raw::jd_insert_pivot, pivots, edges, key; dest_pivots, dest_edges)?;
     Ok(written as usize)
 }
 

@@ -4,8 +4,8 @@
 //! the key. Length 0 to 64 is a key, 65,534 "no edge", 65,535 "max". A key or prefix argument is
 //! lent as its bytes alone. A pair, an old prefix and a new one, has 133 bytes; `Pair` is one as a
 //! value. An entry is a record with a key and a number of four bytes, high byte first. Every call
-//! answers `Ok`, or the first refusal that applies over all arguments, and a refusal changes no
-//! byte of a destination.
+//! answers `Ok`, or the first refusal that applies over all arguments, in the order in which the
+//! call names them; a refusal changes no byte of a destination.
 //!
 //! ```
 //! let mut dest = [0; 64];
@@ -27,7 +27,7 @@ mod renaming;
 mod tables;
 
 pub use buckets::{translate_bucket, translate_bucket_will_fit};
-pub use cuts::{split_left, split_right, translate_key};
+pub use cuts::{insert_pivot, split_left, split_right, translate_key};
 pub use keys::{change_prefix, compare, entry_key, pivot_key, pivot_lcp, shortest_uncommon_prefix};
 pub use list::list_table;
 pub use pair::Pair;

@@ -15,6 +15,8 @@ pub enum Refusal {
     TooLong = 8,
     NotBelow = 9,
     NoRoom = 10,
+    AlreadyPivot = 11,
+    TooManyPivots = 12,
 }
 
 impl Refusal {
@@ -36,6 +38,8 @@ impl Refusal {
             8 => Refusal::TooLong,
             9 => Refusal::NotBelow,
             10 => Refusal::NoRoom,
+            11 => Refusal::AlreadyPivot,
+            12 => Refusal::TooManyPivots,
             other => unreachable!("the archive has no refusal {other}"),
         })
     }
@@ -54,6 +58,8 @@ impl Refusal {
             Refusal::TooLong => "a produced key or prefix passes 64 bytes",
             Refusal::NotBelow => "left isn't below right, or the last new pivot below the end",
             Refusal::NoRoom => "a destination is too short",
+            Refusal::AlreadyPivot => "the key is already a pivot",
+            Refusal::TooManyPivots => "the table would have more than 64 pivots",
         }
     }
 }
@@ -73,7 +79,7 @@ mod tests {
     #[test]
     fn each_number_is_its_refusal() {
         assert_eq!(Refusal::check(0), Ok(()));
-        for number in 1..=10 {
+        for number in 1..=12 {
             assert_eq!(Refusal::check(number).unwrap_err().number(), number);
         }
     }

@@ -1,4 +1,4 @@
-//! The cuts of a table and the translation of a key in it.
+//! The cuts of a table, a new pivot in it, and the translation of a key.
 
 extern "C" {
     pub fn jd_split_left(
@@ -16,6 +16,20 @@ extern "C" {
     ) -> u32;
 
     pub fn jd_split_right(
+        pivots: *const u8,
+        pivots_len: usize,
+        edges: *const u8,
+        edges_len: usize,
+        key: *const u8,
+        key_len: usize,
+        dest_pivots: *mut u8,
+        dest_pivots_len: usize,
+        dest_edges: *mut u8,
+        dest_edges_len: usize,
+        written: *mut u64,
+    ) -> u32;
+
+    pub fn jd_insert_pivot(
         pivots: *const u8,
         pivots_len: usize,
         edges: *const u8,
