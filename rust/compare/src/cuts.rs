@@ -1,8 +1,10 @@
-//! Groups for the cuts, and for the translation of a key and the pair of its slot.
+//! Groups for the cuts and for a new pivot, and for the translation of a key and the pair of its
+//! slot.
 mod by_hand;
-mod calls;
+pub mod calls;
 pub mod inputs;
 mod random;
+pub mod records;
 pub mod small;
 mod two_orders;
 mod wrapper;

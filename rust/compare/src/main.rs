@@ -10,6 +10,7 @@ mod cuts;
 mod dests;
 mod group;
 mod inputs;
+mod insertion;
 mod key_calls;
 mod lengths;
 mod lent;
@@ -96,6 +97,7 @@ fn main() -> ExitCode {
         tests_of_every_call(),
         tables::tests(),
         cuts::tests(),
+        insertion::tests(),
         pairs::tests(),
         renaming::tests(),
         parent_child::tests(),

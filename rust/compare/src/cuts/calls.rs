@@ -1,5 +1,5 @@
-//! The cuts, the translation of a key and the pair of a key's slot, in the archive and in the
-//! reference.
+//! The cuts, a new pivot, the translation of a key and the pair of a key's slot, in the archive and
+//! in the reference.
 use crate::call::{bytes, call, Call};
 use crate::lent::lend;
 use crate::pair_inputs::PAIR_SIZE;
@@ -7,7 +7,13 @@ use crate::tables::calls::{EDGES, KEY, PIVOTS};
 use crate::told::{count, yes};
 use joistdenim::raw;
 
-pub static CALLS: [&Call; 4] = [&SPLIT_LEFT, &SPLIT_RIGHT, &TRANSLATE_KEY, &TRANSLATE];
+pub static CALLS: [&Call; 5] = [
+    &SPLIT_LEFT,
+    &SPLIT_RIGHT,
+    &INSERT_PIVOT,
+    &TRANSLATE_KEY,
+    &TRANSLATE,
+];
 
 const DESTS: &[&str] = &["dest_pivots", "dest_edges"];
 
@@ -41,6 +47,21 @@ pub static SPLIT_RIGHT: Call = Call {
         |asked, [dest_pivots, dest_edges], number| {
             let [pivots, edges, key] = asked.all();
             let written = reference::split_right(pivots, edges, key, dest_pivots, dest_edges);
+            count(written, number)
+        },
+    )
+};
+
+pub static INSERT_PIVOT: Call = Call {
+    dests: DESTS,
+    written,
+    ..call(
+        "insert_pivot",
+        &[PIVOTS, EDGES, KEY],
+        |_, lent| lend!(lent, raw::jd_insert_pivot, pivots, edges, key; dest_pivots, dest_edges),
+        |asked, [dest_pivots, dest_edges], number| {
+            let [pivots, edges, key] = asked.all();
+            let written = reference::insert_pivot(pivots, edges, key, dest_pivots, dest_edges);
             count(written, number)
         },
     )

@@ -2,50 +2,13 @@
 //! round, against the plain cut; and keys from l up to r, translated by what the cuts left,
 //! against the translation by the uncut table.
 use super::inputs::{edge_record, good_table, key_near, keys_after, Table};
+use super::records::Records;
 use super::small::{each_edges, tables, SHARED};
-use crate::answers;
 use crate::call::Hex;
 use crate::group::Group;
 use crate::inputs::{record, Xorshift};
 
 const SEED: u64 = 20_270_627;
-
-type Split = fn(&[u8], &[u8], &[u8], &mut [u8], &mut [u8]) -> Result<usize, joistdenim::Refusal>;
-
-/// Pivots and edges, as records.
-#[derive(Debug, PartialEq)]
-struct Records {
-    pivots: Vec<u8>,
-    edges: Vec<u8>,
-}
-
-impl Records {
-    fn of(table: &Table) -> Self {
-        Records {
-            pivots: table.pivots.clone(),
-            edges: table.edges.clone(),
-        }
-    }
-
-    /// What the archive's cut leaves, exactly the records that it wrote; or the refusal's number.
-    fn cut(&self, split: Split, key: &[u8]) -> Result<Self, u32> {
-        let mut left = Records {
-            pivots: vec![7; self.pivots.len()],
-            edges: vec![7; self.edges.len()],
-        };
-        let (pivots, edges) = (&mut left.pivots, &mut left.edges);
-        let written = split(&self.pivots, &self.edges, key, pivots, edges);
-        let written = written.map_err(joistdenim::Refusal::number)?;
-        left.pivots.truncate(66 * written);
-        left.edges.truncate(66 * (written - 1));
-        Ok(left)
-    }
-
-    /// The key translated by the archive, or the refusal's number.
-    fn translated(&self, key: &[u8]) -> Result<Vec<u8>, u32> {
-        answers::key(|dest| joistdenim::translate_key(&self.pivots, &self.edges, key, dest))
-    }
-}
 
 /// The records of the plain cut, or 8 where one of its edges has more than 64 bytes.
 fn plain(table: &Table, l: &[u8], r: &[u8]) -> Result<Records, u32> {

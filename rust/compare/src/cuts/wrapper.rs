@@ -1,5 +1,5 @@
-//! The safe wrapper's cuts and translation against the reference.
-use super::calls::{SPLIT_LEFT, SPLIT_RIGHT, TRANSLATE, TRANSLATE_KEY};
+//! The safe wrapper's cuts, insertion and translation against the reference.
+use super::calls::{INSERT_PIVOT, SPLIT_LEFT, SPLIT_RIGHT, TRANSLATE, TRANSLATE_KEY};
 use super::inputs::{good_table, key_near};
 use crate::dests::dests_around;
 use crate::group::Group;
@@ -37,6 +37,9 @@ fn each_call(group: &mut Group, slices: [&[u8]; 3]) {
     }
     for dests in dests_around(&SPLIT_RIGHT, &slices) {
         both!(group, slices, dests, split_right);
+    }
+    for dests in dests_around(&INSERT_PIVOT, &slices) {
+        both!(group, slices, dests, insert_pivot);
     }
     let [p, e, k] = slices;
     for [dest, _] in dests_around(&TRANSLATE_KEY, &slices) {

@@ -26,7 +26,8 @@ fn with_pivots(group: &mut Group, call: &Call, pivots: Vec<u8>) {
             other => usual(*other),
         })
         .collect();
-    let room = [pivots.len(); MOST_DESTS];
+    // Of a pivot more, too.
+    let room = [pivots.len() + 66; MOST_DESTS];
     let dests: &[_] = if call.dests.is_empty() {
         &[[0, 0]]
     } else {
