@@ -1,9 +1,9 @@
 /*
  * Each function on single keys from C: a normal case, each of its refusals, and which refusal
  * comes first where two apply. Around every destination stand bytes that must not change. Then a
- * key's way through a table: cuts and translations, whose refusals are in cuts.c. Then pairs,
- * renamed pivots and edges, parent and child, a bucket, and a table's list; more of these is in
- * pairs.c, renaming.c, buckets.c and list.c.
+ * key's way through a table: cuts, a new pivot and translations, whose refusals are in cuts.c and
+ * insert.c. Then pairs, renamed pivots and edges, parent and child, a bucket, and a table's list;
+ * more of these is in pairs.c, renaming.c, buckets.c and list.c.
  */
 #include "bucket.h"
 #include "pair.h"
@@ -160,7 +160,8 @@ static void shortest_uncommon_prefix_checks(void)
     bound("bound: 2 before 10", over, 0, JD_MALFORMED, none);
 }
 
-/* ---- a key's way: T is cut from both sides, and the key is translated before and after */
+/* ---- a key's way: T is cut from both sides and has a pivot put in, and the key is translated
+ * before and after */
 
 static void key_through_t(void)
 {
@@ -174,6 +175,12 @@ static void key_through_t(void)
     cut("split_right: 5", jd_split_right, t, BYTES("B"), ample, JD_OUT_OF_RANGE, nothing);
     cut("split_left: 5", jd_split_left, t, BYTES("A0"), ample, JD_OUT_OF_RANGE, nothing);
     translate("translate_key: 5", t, BYTES("B"), ROOM, JD_OUT_OF_RANGE, none);
+    slice pivots = TABLE(key(BYTES("A0")), key(BYTES("A1")), key(BYTES("A5")), key(BYTES("B")));
+    slice edges = TABLE(key(BYTES("C0")), key(BYTES("C")), record(JD_NO_EDGE, none));
+    pair inserted = {pivots, edges};
+    cut("insert_pivot: T", jd_insert_pivot, t, BYTES("A1"), ample, 0, inserted);
+    translate("translate_key: with a pivot more", inserted, BYTES("A17"), 3, 0, BYTES("C17"));
+    cut("insert_pivot: 11", jd_insert_pivot, t, BYTES("A5"), ample, JD_ALREADY_PIVOT, nothing);
 }
 
 /* ---- the key's pair, undone, composed and applied */
