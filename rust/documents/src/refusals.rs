@@ -1,5 +1,6 @@
 //! The numbers of refusals: a row that has one cites a theorem that says so.
 use crate::repository::Repository;
+use std::ops::RangeInclusive;
 
 /// Where each refusal has its number.
 pub const NUMBERS: &str = "crates/model/specs/calls/Refusals.antt";
@@ -7,9 +8,12 @@ pub const NUMBERS: &str = "crates/model/specs/calls/Refusals.antt";
 /// The first and the last number of a row's status.
 pub type Numbers = (usize, usize);
 
-/// `refusal N` or `refusal N-M`, of 1 to 10.
+/// The numbers that there are.
+const ALL: RangeInclusive<usize> = 1..=12;
+
+/// `refusal N` or `refusal N-M`.
 pub fn read(status: &str) -> Option<Numbers> {
-    let number = |n: &str| n.parse().ok().filter(|n: &usize| (1..=10).contains(n));
+    let number = |n: &str| n.parse().ok().filter(|n| ALL.contains(n));
     let numbers = status.strip_prefix("refusal ")?;
     match numbers.split_once('-') {
         None => number(numbers).map(|n| (n, n)),
@@ -37,4 +41,18 @@ pub fn says(statement: &str, wanted: &[String]) -> bool {
     let apart = |c: char| c.is_whitespace() || c == '(' || c == ')';
     let has = |word: &String| statement.split(apart).any(|found| found == word);
     wanted.iter().all(has)
+}
+
+#[cfg(test)]
+mod tests {
+    use super::read;
+
+    #[test]
+    fn each_of_the_twelve_and_ranges_are_read() {
+        for n in 1..=12 {
+            assert_eq!(read(&format!("refusal {n}")), Some((n, n)));
+        }
+        assert_eq!(read("refusal 1-4"), Some((1, 4)));
+        assert_eq!(read("refusal 1-12"), Some((1, 12)));
+    }
 }
