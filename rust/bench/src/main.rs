@@ -41,6 +41,7 @@ fn main() -> ExitCode {
     cases.extend(pair_calls::cases(&mut random));
     cases.extend(table_calls::cases(&mut random));
     cases.extend(bucket_calls::cases(&mut random));
+    cases.extend(table_calls::insertions(&mut random));
     for case in &mut cases {
         case.calibrate();
     }

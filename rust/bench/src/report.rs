@@ -48,21 +48,22 @@ fn keys(cases: &[Case]) {
     }
 }
 
-fn tables(cases: &[Case]) {
+fn tables(cases: &[Case], calls: &[&str], pivots: [usize; 3]) {
+    let [few, some, many] = pivots.map(|count| count.to_string());
     header(&[
         "call",
         "key bytes",
-        "lib/ref, 2 pivots",
-        "8",
-        "64",
-        "lib/floor, 2 pivots",
-        "8",
-        "64",
-        "growth from 2 to 64",
+        &format!("lib/ref, {few} pivots"),
+        &some,
+        &many,
+        &format!("lib/floor, {few} pivots"),
+        &some,
+        &many,
+        &format!("growth from {few} to {many}"),
     ]);
-    for call in table_calls::CALLS {
+    for call in calls {
         for key in table_calls::KEYS {
-            let sizes = table_calls::PIVOTS.map(|pivots| find(cases, call, key, pivots));
+            let sizes = pivots.map(|pivots| find(cases, call, key, pivots));
             let growth = ratio(&sizes[2].library, &sizes[0].library);
             row(call, key, both(sizes).chain([growth]));
         }
@@ -119,7 +120,9 @@ fn checks(cases: &[Case]) {
 pub fn print(cases: &[Case], rounds: usize) {
     keys(cases);
     println!();
-    tables(cases);
+    tables(cases, &table_calls::CALLS, table_calls::PIVOTS);
+    println!();
+    tables(cases, &["insert_pivot"], table_calls::PIVOTS_BEFORE);
     println!();
     checks(cases);
     println!();

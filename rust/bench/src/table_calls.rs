@@ -20,9 +20,16 @@ pub const CALLS: [&str; 11] = [
 /// Below 64, so that an edge has room to grow.
 pub const KEYS: [usize; 4] = [3, 8, 32, 60];
 pub const PIVOTS: [usize; 3] = [2, 8, 64];
+/// Of a table that a pivot is put into, and that may have 64 then.
+pub const PIVOTS_BEFORE: [usize; 3] = [2, 8, 63];
 /// Few, so that large tables stay in the nearest caches too.
 const TABLES: usize = 4;
 const KEYS_PER_TABLE: usize = 4;
+
+/// The bytes of so many pivots, and of one edge fewer.
+fn both(count: usize) -> [usize; 2] {
+    [count, count - 1].map(|count| count * RECORD_SIZE)
+}
 
 /// The calls that are lent a table alone, or a table and a key.
 fn cases_of_key(random: &mut Xorshift, size: (usize, usize), tables: &[Table]) -> Vec<Case> {
@@ -39,7 +46,6 @@ fn cases_of_key(random: &mut Xorshift, size: (usize, usize), tables: &[Table]) -
             asked.push([table.pivots.clone(), table.edges.clone(), key]);
         }
     }
-    let both = |count| [count * RECORD_SIZE, (count - 1) * RECORD_SIZE];
     let pair = |_| [PAIR_SIZE];
     let records = |count| [count * RECORD_SIZE];
     vec![
@@ -86,10 +92,13 @@ fn cases_of_more(random: &mut Xorshift, size: (usize, usize), tables: &[Table]) 
     ]
 }
 
+fn tables(random: &mut Xorshift, size: (usize, usize)) -> Vec<Table> {
+    let tables = (0..TABLES).map(|_| Table::new(random, size.0, size.1));
+    tables.collect()
+}
+
 fn cases_of(random: &mut Xorshift, size: (usize, usize)) -> Vec<Case> {
-    let tables: Vec<Table> = (0..TABLES)
-        .map(|_| Table::new(random, size.0, size.1))
-        .collect();
+    let tables = tables(random, size);
     let mut cases = cases_of_key(random, size, &tables);
     cases.extend(cases_of_more(random, size, &tables));
     cases
@@ -101,6 +110,26 @@ pub fn cases(random: &mut Xorshift) -> Vec<Case> {
         for pivots in PIVOTS {
             cases.extend(cases_of(random, (key, pivots)));
         }
+    }
+    cases
+}
+
+/// A key put in as a pivot.
+fn insertion(random: &mut Xorshift, size: (usize, usize)) -> Case {
+    let mut asked = vec![];
+    for table in tables(random, size) {
+        for _ in 0..KEYS_PER_TABLE {
+            let key = table.key_inside(random);
+            asked.push([table.pivots.clone(), table.edges.clone(), key]);
+        }
+    }
+    case!(size, &asked, insert_pivot(p, e, k; dest_pivots, dest_edges), |count| count, both)
+}
+
+pub fn insertions(random: &mut Xorshift) -> Vec<Case> {
+    let mut cases = vec![];
+    for key in KEYS {
+        cases.extend(PIVOTS_BEFORE.map(|pivots| insertion(random, (key, pivots))));
     }
     cases
 }
