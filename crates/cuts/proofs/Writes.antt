@@ -1,112 +1,102 @@
 -- What a cut in a slot answers and writes.
-use mathlib.Core.Path.{_≡_, refl, sym, ap, _∙_}
+use mathlib.Core.Path.{_≡_, refl, sym, _∙_}
 use mathlib.Core.Bool.{Bool, true, false}
-use mathlib.Core.List.{List, []}
+use mathlib.Core.List.{List, [], _++_, append-nil}
 use mathlib.Core.Option.{none}
-use Prim.Native.Nat.{ℕ, _+_, _*_, _/_, _≤_, _<_}
-use native.Mathlib.Nat.{add-comm}
+use Prim.Native.Nat.{ℕ, _+_, _*_, _-_, _/_, _≤_}
 use native.Mathlib.Omega.{arith}
-use mir.Syntax.{w8, w16}
+use mir.Syntax.{w8, w16, w64}
 use mir.Val.{Fits}
-use borrow.Author.Tests.{lt-ltb, le-ltb, not-false}
-use lib.ListN.{length, getD, length-append}
+use borrow.Author.Tests.{not-false}
+use lib.ListN.{length, take, drop, getD}
 use Rattle.model.specs.declared.Refusal.{Refusal}
-use Rattle.model.specs.declared.Refusal.the-variants.{TooLong, NoRoom}
+use Rattle.model.specs.declared.Refusal.the-variants.{TooLong}
 use Rattle.model.specs.declared.Answer.{Answer}
 use Rattle.model.specs.declared.Answer.the-variants as answers
 use Rattle.model.specs.records.Record.{recordSize, elements, recordOf, encodeEdge, encodeAll, encodeEdges}
 use Rattle.model.specs.inner.Written.{clipped}
 use Rattle.model.specs.tables.Tables.{all, shortEdge}
 use Rattle.model.specs.cuts.Sides.{inside, cutoff}
-use Rattle.model.specs.inner.CutSlot.{keptPart, beside, edgePlace}
 use Rattle.model.specs.calls.Refusals.{outcome, first, answer, leaves}
-use Rattle.model.specs.inner.Written.{into}
-use Rattle.model.specs.calls.KeyCalls.{noRoom}
-use Rattle.model.specs.calls.CutCalls.{cutPivots, cutEdges, writeCauses}
+use Rattle.model.specs.calls.CutCalls.{cutPivots, cutEdges, roomCauses, writeCauses}
 use Rattle.model.specs.calls.TableCalls.{edgeSlotCauses}
-use Rattle.model.proofs.calls.Refusals.{here, later, refused-first, refused, accepted, passed, none-here, or-left, or-right}
-use Rattle.model.proofs.Lists.{over-all, into-over, clipped-all}
-use Rattle.model.proofs.records.Record.{length-record, length-encodeEdge}
+use Rattle.model.proofs.Lists.{rest, over-all, clipped-all}
+use Rattle.model.proofs.calls.Refusals.{refused-first, refused, accepted, passed, none-here}
+use Rattle.model.proofs.calls.Writing.{table-answered, table-pivots, table-edges}
+use Rattle.model.proofs.records.Record.{length-encodeEdge}
 use Rattle.model.proofs.keys.Key.{bytes-of}
-use Rattle.model.proofs.calls.CutCalls.{cut-slot-small, cut-key, cut-slot, cut-edges-less, cut-short, cut-pivots-size, cut-edges-size, cut-count, cut-pivots-bytes, cut-edges-bytes}
-use Rattle.cuts.specs.Slot.{edgeCut, longCauses, roomCauses}
+use Rattle.model.proofs.calls.CutCalls.{cut-slot-small, cut-key, cut-slot, cut-slot-edge, cut-short, cut-pivots-short, cut-pivots-bytes, cut-edges-bytes}
+use Rattle.cuts.specs.Slot.{edgeCut, longCauses}
 
--- what is new beside what is kept
-length-beside : (left : Bool) (a b : List ℕ) → length (beside left a b) ≡ length a + length b
-length-beside true a b = length-append a b
-length-beside false a b = length-append b a ∙ add-comm (length b) (length a)
+-- the place after a record is that of the next one
+next-place : (n : ℕ) → (n + 1) * recordSize ≡ n * 66 + 66
+next-place n = omega arith
 
 module _ (left : Bool) (p e k : List ℕ) (c : ℕ) (h : first (edgeSlotCauses p e k (inside left (elements p) k)) ≡ none)
     (f : c ≡ cutoff left (elements p) k) where
   -- ---- places
 
-  pub pivots-kept : c + 1 ≤ length p / 66
-  pivots-kept = omega (arith, f, cut-slot left p e k h)
-
-  pub slot-small : c < 64
-  slot-small = omega (arith, f, cut-slot-small left p e k h)
-
   pub key-fits : Fits w16 (length k)
   key-fits = record { fits = omega (arith, cut-key left p e k h) }
 
-  place-most : (s : Bool) → edgePlace s c ≤ c + 1
-  place-most true = omega arith
-  place-most false = omega arith
+  pub at-fits : Fits w64 (c * 66)
+  at-fits = record { fits = omega (arith, f, cut-slot-small left p e k h) }
 
-  pub edges-kept : (x : ℕ) → x ≡ edgePlace left c → x ≤ length e / 66
-  edges-kept x g = rw g (omega (arith, place-most left, f, cut-slot left p e k h, cut-edges-less left p e k h))
+  pub next-fits : Fits w64 (c * 66 + 66)
+  next-fits = record { fits = omega (arith, f, cut-slot-small left p e k h) }
 
-  -- ---- what is written where the cut edge is made
+  pub pivots-at : c * 66 ≤ length p
+  pivots-at = omega (arith, f, cut-slot left p e k h)
 
-  module _ (s : shortEdge (edgeCut left p e k) ≡ true) (kp : List ℕ) (a : kp ≡ keptPart left (c + 1) p) where
-    size : length (cutPivots left p k) * recordSize ≡ length kp + 66
-    size = cut-pivots-size left p e k h ∙ rw (a, f)
+  pub pivots-next : c * 66 + 66 ≤ length p
+  pivots-next = omega (arith, f, cut-slot left p e k h)
 
-    pub no-room-pivots : {A : Type 0} (g : Refusal → A) (v x : A) (dp de : List ℕ) → length dp < length kp + 66 → x ≡ g NoRoom
-        → x ≡ outcome g (roomCauses left p e k dp de) v
-    no-room-pivots g v x dp de l w =
-        let i : noRoom (length (cutPivots left p k) * recordSize) dp ≡ true = rw size (lt-ltb (length dp) (length kp + 66) l) in
-        here g v x _ NoRoom [] (or-left _ _ i) w
+  pub edges-at : c * 66 ≤ length e
+  edges-at = omega (arith, f, cut-slot-edge left p e k h)
 
-    module _ (ke : List ℕ) (y : ℕ) (b : ke ≡ keptPart left y e) (d : y ≡ edgePlace left c) where
-      edges-size : length (cutEdges left p e k) * recordSize ≡ length ke + 66
-      edges-size = cut-edges-size left p e k h ∙ rw (b, d, f)
+  pub edges-next : c * 66 + 66 ≤ length e
+  edges-next = omega (arith, f, cut-slot-edge left p e k h)
 
-      pub no-room-edges : {A : Type 0} (g : Refusal → A) (v x : A) (dp de : List ℕ) → length de < length ke + 66 → x ≡ g NoRoom
-          → x ≡ outcome g (roomCauses left p e k dp de) v
-      no-room-edges g v x dp de l w =
-          let i : noRoom (length (cutEdges left p e k) * recordSize) de ≡ true = rw edges-size (lt-ltb (length de) (length ke + 66) l) in
-          here g v x _ NoRoom [] (or-right (noRoom (length (cutPivots left p k) * recordSize) dp) _ i) w
+  -- ---- the bytes of the cut, by the side
 
-      module _ (dp de : List ℕ) (l : length kp + 66 ≤ length dp) (n : length ke + 66 ≤ length de) where
-        room : first (roomCauses left p e k dp de) ≡ none
-        unfolding outcome
-        room = rw (size, edges-size, le-ltb (length dp) (length kp + 66) l, le-ltb (length de) (length ke + 66) n)
+  module _ (v : List ℕ) (t : (i : ℕ) → Fits w8 (getD p i 0)) (u : v ≡ recordOf (length k) (clipped k)) where
+    pivot-is : v ≡ recordOf (length k) k
+    pivot-is = rw (clipped-all k (cut-key left p e k h)) at u
 
-        pub cut-answered : answers.Value (length kp / 66 + 1) ≡ answer (roomCauses left p e k dp de) (length (cutPivots left p k))
-        cut-answered = passed answers.Refused _ _ _ room (ap answers.Value (sym (cut-count left p e k h ∙ rw (a, f))))
+    pub left-pivots : left ≡ true → encodeAll (cutPivots left p k) ≡ take (c * 66 + 66) p ++ (v ++ take 0 k)
+    left-pivots l = cut-pivots-bytes left p e k h (bytes-of p t) ∙ rw (f, l, pivot-is, next-place, append-nil)
 
-        pub pivots-written : (v w : List ℕ) → ((i : ℕ) → Fits w8 (getD p i 0)) → v ≡ recordOf (length k) (clipped k) → w ≡ into (beside left kp v) dp
-            → w ≡ leaves (roomCauses left p e k dp de) (encodeAll (cutPivots left p k)) dp
-        pivots-written v w t u o =
-            let x : encodeAll (cutPivots left p k) ≡ beside left kp (recordOf (length k) k) =
-            cut-pivots-bytes left p e k h (bytes-of p t) ∙ rw (a, f)
-            in
-            let y : v ≡ recordOf (length k) k = rw (clipped-all k (cut-key left p e k h)) at u in
-            let m = length-record (length k) k (cut-key left p e k h) in
-            passed (λ (_ : Refusal). dp) _ w _ room
-            (rw y at o ∙ rw x (into-over _ dp (omega (arith, l, m, length-beside left kp (recordOf (length k) k)))))
+    pub right-pivots : left ≡ false → encodeAll (cutPivots left p k) ≡ take 0 k ++ (v ++ take (length p - (c * 66 + 66)) (drop (c * 66 + 66) p))
+    right-pivots l = cut-pivots-bytes left p e k h (bytes-of p t) ∙ rw (f, l, pivot-is, next-place, rest)
 
-        pub edges-written : (v w : List ℕ) → ((i : ℕ) → Fits w8 (getD e i 0)) → v ≡ encodeEdge (edgeCut left p e k) → w ≡ into (beside left ke v) de
-            → w ≡ leaves (roomCauses left p e k dp de) (encodeEdges (cutEdges left p e k)) de
-        unfolding edgeCut
-        edges-written v w t u o =
-            let x : encodeEdges (cutEdges left p e k) ≡ beside left ke (encodeEdge (edgeCut left p e k)) =
-            cut-edges-bytes left p e k h (bytes-of e t) ∙ rw (b, d, f)
-            in
-            let i = length-encodeEdge (edgeCut left p e k) s in
-            passed (λ (_ : Refusal). de) _ w _ room
-            (rw u at o ∙ rw x (into-over _ de (omega (arith, n, i, length-beside left ke (encodeEdge (edgeCut left p e k))))))
+  module _ (made : List ℕ) (t : (i : ℕ) → Fits w8 (getD e i 0)) (u : made ≡ encodeEdge (edgeCut left p e k)) where
+    pub left-edges : left ≡ true → encodeEdges (cutEdges left p e k) ≡ take (c * 66) e ++ (made ++ take 0 k)
+    unfolding edgeCut
+    left-edges l = cut-edges-bytes left p e k h (bytes-of e t) ∙ rw (f, u, l, append-nil)
+
+    pub right-edges : left ≡ false → encodeEdges (cutEdges left p e k) ≡ take 0 k ++ (made ++ take (length e - (c * 66 + 66)) (drop (c * 66 + 66) e))
+    unfolding edgeCut
+    right-edges l = cut-edges-bytes left p e k h (bytes-of e t) ∙ rw (f, u, l, next-place, rest)
+
+  -- ---- what is written
+
+  module _ (s : shortEdge (edgeCut left p e k) ≡ true) where
+    edges-short : all shortEdge (cutEdges left p e k) ≡ true
+    unfolding edgeCut
+    edges-short = cut-short left p e k h ∙ s
+
+    module _ (x y dp de : List ℕ) where
+      pub cut-answered : (z : Answer) → z ≡ answer (roomCauses (length x) (length y) dp de) (length x / 66) → encodeAll (cutPivots left p k) ≡ x → encodeEdges (cutEdges left p e k) ≡ y
+          → z ≡ answer (writeCauses (cutPivots left p k) (cutEdges left p e k) dp de) (length (cutPivots left p k))
+      cut-answered z q a b = table-answered _ _ x y a b (cut-pivots-short left p e k h) edges-short dp de z q
+
+      pub pivots-written : (w : List ℕ) → w ≡ leaves (roomCauses (length x) (length y) dp de) x dp → encodeAll (cutPivots left p k) ≡ x → encodeEdges (cutEdges left p e k) ≡ y
+          → w ≡ leaves (writeCauses (cutPivots left p k) (cutEdges left p e k) dp de) (encodeAll (cutPivots left p k)) dp
+      pivots-written w q a b = table-pivots _ _ x y a b (cut-pivots-short left p e k h) edges-short dp de w q
+
+      pub edges-written : (w : List ℕ) → w ≡ leaves (roomCauses (length x) (length y) dp de) y de → encodeAll (cutPivots left p k) ≡ x → encodeEdges (cutEdges left p e k) ≡ y
+          → w ≡ leaves (writeCauses (cutPivots left p k) (cutEdges left p e k) dp de) (encodeEdges (cutEdges left p e k)) de
+      edges-written w q a b = table-edges _ _ x y a b (cut-pivots-short left p e k h) edges-short dp de w q
 
 -- ---- the cut edge
 
@@ -133,7 +123,3 @@ module _ (left : Bool) (p e k : List ℕ) (z : Answer) (q : z ≡ answer (longCa
     pub edge-refused : (y : Refusal) → z ≡ answers.Refused y → x ≡ g y → x ≡ outcome g (writeCauses (cutPivots left p k) (cutEdges left p e k) dp de) v
     edge-refused y r w =
         rw only-cut (refused-first g v x (longCauses (edgeCut left p e k)) _ y (refused _ 1 z q y r) w)
-
-    pub edge-passed : (m : ℕ) → z ≡ answers.Value m → x ≡ outcome g (roomCauses left p e k dp de) v
-        → x ≡ outcome g (writeCauses (cutPivots left p k) (cutEdges left p e k) dp de) v
-    edge-passed m r w = later g v x _ TooLong _ (rw (only-cut, edge-taken m r)) w

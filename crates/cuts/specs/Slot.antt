@@ -1,19 +1,16 @@
 -- The slot that a cut at k finds in pivots p and edges e, and its cut edge.
 use mathlib.Core.Path.{_≡_}
-use mathlib.Core.Bool.{Bool, not, _||_}
+use mathlib.Core.Bool.{Bool, not}
 use mathlib.Core.List.{List, [], _∷_}
 use mathlib.Core.Option.{none}
-use Prim.Native.Nat.{ℕ, _*_}
-use lib.ListN.{length}
-use Rattle.model.specs.declared.Refusal.the-variants.{TooLong, NoRoom}
+use Prim.Native.Nat.{ℕ}
+use Rattle.model.specs.declared.Refusal.the-variants.{TooLong}
 use Rattle.model.specs.keys.Key.{Key}
-use Rattle.model.specs.records.Record.{Edge, recordSize, elements, edges}
+use Rattle.model.specs.records.Record.{Edge, elements, edges}
 use Rattle.model.specs.tables.Tables.{shortEdge}
 use Rattle.model.specs.cuts.Sides.{inside, cutoff}
 use Rattle.model.specs.inner.CutSlot.{cutSlotEdge}
 use Rattle.model.specs.calls.Refusals.{Cause, _⇒_, first}
-use Rattle.model.specs.calls.KeyCalls.{noRoom}
-use Rattle.model.specs.calls.CutCalls.{cutPivots, cutEdges}
 use Rattle.model.specs.calls.TableCalls.{edgeSlotCauses}
 
 -- none of the causes 1 to 5 applies, and c is the slot
@@ -27,8 +24,3 @@ edgeCut left p e k = cutSlotEdge left (elements p) (edges e) k
 -- cause 8 of one edge
 abbrev pub longCauses : Edge → List Cause
 longCauses e = (not (shortEdge e) ⇒ TooLong) ∷ []
-
--- cause 10 of the cut
-abbrev pub roomCauses : Bool → List ℕ → List ℕ → Key → List ℕ → List ℕ → List Cause
-roomCauses left p e k dp de =
-    (noRoom (length (cutPivots left p k) * recordSize) dp || noRoom (length (cutEdges left p e k) * recordSize) de ⇒ NoRoom) ∷ []

@@ -2,53 +2,15 @@
 use crate::edge::slot_edge;
 use model::Answer;
 use model::RECORD_SIZE;
-use model::Refusal;
 use model::Routed;
 ghost use mathlib.Core.Path.{_≡_};
 ghost use mathlib.Core.Bool.{true, false};
-ghost use Prim.Native.Nat.{_/_, _≤_, _<_};
 ghost use lib.ListN.{length};
-ghost use Rattle.model.specs.records.Record.{recordSize, encodeEdge, encodeAll, encodeEdges};
+ghost use Rattle.model.specs.records.Record.{encodeEdge, encodeAll, encodeEdges};
 ghost use Rattle.model.specs.tables.Tables.{shortEdge};
-ghost use Rattle.model.specs.inner.CutSlot.{keptPart, beside, edgePlace};
 ghost use Rattle.model.specs.calls.Refusals.{answer, leaves};
-ghost use Rattle.model.specs.inner.Written.{into};
 ghost use Rattle.model.specs.calls.CutCalls.{cutPivots, cutEdges, writeCauses, cutAnswer, cutLeavesPivots, cutLeavesEdges};
-ghost use Rattle.cuts.specs.Slot.{Found, edgeCut, roomCauses};
-
-// The first n records, or those from place n on.
-fn kept(bytes: &[u8], n: usize, left: bool) -> &[u8]
-    requires { ⌜ n ≤ length (now bytes) / recordSize ⌝ }
-    ensures { λ r. ⌜ now r ≡ keptPart left n (now (bytes .entry)) ⌝ }
-{
-    let at = n * RECORD_SIZE;
-    if left {
-        return &bytes[..at];
-    }
-    &bytes[at..]
-}
-
-// The place up to which, or from which on, edges are kept.
-fn edge_place(c: usize, left: bool) -> usize
-    requires { ⌜ c < 64 ⌝ }
-    ensures { λ r. ⌜ r ≡ edgePlace left c ⌝ }
-{
-    if left {
-        return c;
-    }
-    c + 1
-}
-
-// Writes what is kept with what is new beside it.
-fn put(kept: &[u8], new: &[u8], left: bool, dest: &mut [u8])
-    ensures { λ _. ⌜ now (dest .exit) ≡ into (beside left (now (kept .entry)) (now (new .entry))) (now (dest .entry)) ⌝ }
-{
-    if left {
-        records::join(kept, new, dest);
-    } else {
-        records::join(new, kept, dest);
-    }
-}
+ghost use Rattle.cuts.specs.Slot.{Found, edgeCut};
 
 // Cause 10 of a cut in slot c whose edge is made; else its pivots and edges at the heads of the destinations.
 fn write_at(
@@ -62,26 +24,36 @@ fn write_at(
     dest_edges: &mut [u8],
 ) -> Answer
     requires { ⌜ (Found left (now pivots) (now edges) (now k) c) × (shortEdge (edgeCut left (now pivots) (now edges) (now k)) ≡ true) × (now made ≡ encodeEdge (edgeCut left (now pivots) (now edges) (now k))) ⌝ }
-    ensures answered { λ r. ⌜ r ≡ answer (roomCauses left (now (pivots .entry)) (now (edges .entry)) (now (k .entry)) (now («dest_pivots» .entry)) (now («dest_edges» .entry))) (length (cutPivots left (now (pivots .entry)) (now (k .entry)))) ⌝ }
-    ensures pivots { λ r. ⌜ now («dest_pivots» .exit) ≡ leaves (roomCauses left (now (pivots .entry)) (now (edges .entry)) (now (k .entry)) (now («dest_pivots» .entry)) (now («dest_edges» .entry))) (encodeAll (cutPivots left (now (pivots .entry)) (now (k .entry)))) (now («dest_pivots» .entry)) ⌝ }
-    ensures edges { λ r. ⌜ now («dest_edges» .exit) ≡ leaves (roomCauses left (now (pivots .entry)) (now (edges .entry)) (now (k .entry)) (now («dest_pivots» .entry)) (now («dest_edges» .entry))) (encodeEdges (cutEdges left (now (pivots .entry)) (now (edges .entry)) (now (k .entry)))) (now («dest_edges» .entry)) ⌝ }
+    ensures answered { λ r. ⌜ r ≡ answer (writeCauses (cutPivots left (now (pivots .entry)) (now (k .entry))) (cutEdges left (now (pivots .entry)) (now (edges .entry)) (now (k .entry))) (now («dest_pivots» .entry)) (now («dest_edges» .entry))) (length (cutPivots left (now (pivots .entry)) (now (k .entry)))) ⌝ }
+    ensures pivots { λ r. ⌜ now («dest_pivots» .exit) ≡ leaves (writeCauses (cutPivots left (now (pivots .entry)) (now (k .entry))) (cutEdges left (now (pivots .entry)) (now (edges .entry)) (now (k .entry))) (now («dest_pivots» .entry)) (now («dest_edges» .entry))) (encodeAll (cutPivots left (now (pivots .entry)) (now (k .entry)))) (now («dest_pivots» .entry)) ⌝ }
+    ensures edges { λ r. ⌜ now («dest_edges» .exit) ≡ leaves (writeCauses (cutPivots left (now (pivots .entry)) (now (k .entry))) (cutEdges left (now (pivots .entry)) (now (edges .entry)) (now (k .entry))) (now («dest_pivots» .entry)) (now («dest_edges» .entry))) (encodeEdges (cutEdges left (now (pivots .entry)) (now (edges .entry)) (now (k .entry)))) (now («dest_edges» .entry)) ⌝ }
 {
-    let kept_pivots = kept(pivots, c + 1, left);
-    let kept_edges = kept(edges, edge_place(c, left), left);
-    if dest_pivots.len() < kept_pivots.len() + RECORD_SIZE {
-        return Answer::Refused(Refusal::NoRoom);
+    let pivot = records::record_of(k.len() as u16, k);
+    let none = &k[..0];
+    let at = c * RECORD_SIZE;
+    let next = at + RECORD_SIZE;
+    if left {
+        return table_writes::write_table(
+            &pivots[..next],
+            &pivot,
+            none,
+            &edges[..at],
+            made,
+            none,
+            dest_pivots,
+            dest_edges,
+        );
     }
-    if dest_edges.len() < kept_edges.len() + RECORD_SIZE {
-        return Answer::Refused(Refusal::NoRoom);
-    }
-    put(
-        kept_pivots,
-        &records::record_of(k.len() as u16, k),
-        left,
+    table_writes::write_table(
+        none,
+        &pivot,
+        &pivots[next..],
+        none,
+        made,
+        &edges[next..],
         dest_pivots,
-    );
-    put(kept_edges, made, left, dest_edges);
-    Answer::Value(kept_pivots.len() / RECORD_SIZE + 1)
+        dest_edges,
+    )
 }
 
 // Causes 8 and 10 of a cut in slot c; else its pivots and edges at the heads of the destinations.

@@ -3,6 +3,7 @@ pub mod TableCalls
 pub mod KeyCalls
 pub mod CutCalls
 pub mod InsertionCalls
+pub mod Writing
 pub mod WrittenTables
 pub mod PairCalls
 pub mod TranslationCalls

@@ -1,15 +1,14 @@
--- A cut by its bytes: what stands in the cut slot, which of the records lent are kept, and how many are written.
+-- A cut by its bytes: what stands in the cut slot, and which of the records lent are kept.
 use mathlib.Core.Path.{_≡_, refl, _∙_}
 use mathlib.Core.Bool.{Bool, true, false, and-true, true≢false}
 use mathlib.Core.List.{List, [], _∷_, _++_, map, append-nil}
 use mathlib.Core.Option.{none}
 use Prim.Native.Nat.{ℕ, _+_, _*_, _/_, _≤_, _<_}
 use native.Mathlib.Omega.{arith}
-use borrow.Author.Tests.{leb-true, not-false}
+use borrow.Author.Tests.{leb-true, le-leb, not-false}
 use mir.Syntax.{w64}
 use mir.Val.{Fits}
-use lib.ListN.{length, take, drop, length-append, length-drop}
-use lib.Seq.{length-take-le}
+use lib.ListN.{length, take, drop}
 use Rattle.model.specs.declared.Refusal.the-variants.{OutOfRange}
 use Rattle.model.specs.keys.Key.{Key, Bytes, maxLen, IsPrefix, tooLong}
 use Rattle.model.specs.keys.Order.{key, BytesE}
@@ -20,7 +19,7 @@ use Rattle.model.specs.ranges.RangePrefix.{PivotLcp}
 use Rattle.model.specs.tables.Tables.{PivotTable, EdgeTable, maxPivots, pivotAt, edgeAt, all, shortElement, shortEdge, WFPivots, BytesT, slotPrefix}
 use Rattle.model.specs.cuts.Cuts.{SplitLeft, SplitRight, SplitLeftEdges, SplitRightEdges}
 use Rattle.model.specs.cuts.Sides.{inside, cutoff, Split, SplitEdges}
-use Rattle.model.specs.inner.CutSlot.{cutFrom, cutUpto, cutSlotEdge, keptPart, beside, edgePlace}
+use Rattle.model.specs.inner.CutSlot.{cutFrom, cutUpto, cutSlotEdge, cutBytes, edgePlace}
 use Rattle.model.specs.calls.TableCalls.{tableCauses}
 use Rattle.model.specs.calls.CutCalls.{cutPivots, cutEdges}
 use Rattle.model.specs.calls.TableCalls.{edgeSlotCauses}
@@ -72,16 +71,10 @@ unfolding all
 cut-all test true n xs x h = rw (all-append test (take n xs) (x ∷ []), all-parts test n xs h .0, and-true (test x))
 cut-all test false n xs x h = rw (all-parts test n xs h .1, and-true (test x))
 
--- as many records are written as are kept, and one
-cut-size : {A : Type 0} (left : Bool) (n : ℕ) (xs : List A) (x : A) (l : List ℕ) → length l ≡ length xs * recordSize → n ≤ length xs
-    → length (cutList left n xs x) * recordSize ≡ length (keptPart left n l) + recordSize
-cut-size true n xs x l e m = rw (length-append, length-take-le n xs m, length-take-le (n * recordSize) l (omega arith)) (omega arith)
-cut-size false n xs x l e m = rw (length-drop n xs, length-drop (n * recordSize) l) (omega arith)
-
 -- their bytes are those of the records kept, with the new record beside them
 cut-written : {A : Type 0} (ok : A → Bool) (write : A → List ℕ) → ((x : A) → ok x ≡ true → length (write x) ≡ recordSize)
     → (left : Bool) (n : ℕ) (xs : List A) (x : A) (l : List ℕ) → joined (map write xs) ≡ l → n ≤ length xs → all ok xs ≡ true
-    → joined (map write (cutList left n xs x)) ≡ beside left (keptPart left n l) (write x)
+    → joined (map write (cutList left n xs x)) ≡ cutBytes left n l (write x)
 unfolding joined
 cut-written ok write size true n xs x l e m h =
     rw (joined-append write (take n xs) (x ∷ []), joined-take recordSize ok write size n xs m h, e, append-nil (write x))
@@ -213,21 +206,14 @@ module _ (left : Bool) (p e : List ℕ) (k : Key) (h : first (edgeSlotCauses p e
   pub cut-short : all shortEdge (cutEdges left p e k) ≡ shortEdge (cutSlotEdge left (elements p) (edges e) k)
   cut-short = rw (split-edges-list left (elements p) (edges e) k) (cut-all shortEdge left _ (edges e) _ edges-short)
 
-  -- the pivots take the room of those kept and of one record
-  pub cut-pivots-size : length (cutPivots left p k) * recordSize ≡ length (keptPart left (cutoff left (elements p) k + 1) p) + recordSize
-  cut-pivots-size = rw (split-list left (elements p) k) (cut-size left _ (elements p) (key k) p (table-whole _ _ p e cut-table) kept-pivots)
-
-  -- and so do the edges
-  pub cut-edges-size : length (cutEdges left p e k) * recordSize ≡ length (keptPart left (edgePlace left (cutoff left (elements p) k)) e) + recordSize
-  cut-edges-size = rw (split-edges-list left (elements p) (edges e) k) (cut-size left _ (edges e) _ e (table-edges-whole _ _ p e cut-table) kept-edges)
-
-  -- there is one pivot more than are kept
-  pub cut-count : length (cutPivots left p k) ≡ length (keptPart left (cutoff left (elements p) k + 1) p) / recordSize + 1
-  cut-count = omega (arith, cut-pivots-size)
+  -- and no pivot is: the key is short too
+  pub cut-pivots-short : all shortElement (cutPivots left p k) ≡ true
+  cut-pivots-short =
+      rw (split-list left (elements p) k) (cut-all shortElement left _ (elements p) (key k) (wf-all-short (elements p) wf) ∙ le-leb (length k) maxLen cut-key)
 
   -- the pivots written are the records kept and that of k
   pub cut-pivots-bytes : Bytes p
-      → encodeAll (cutPivots left p k) ≡ beside left (keptPart left (cutoff left (elements p) k + 1) p) (recordOf (length k) k)
+      → encodeAll (cutPivots left p k) ≡ cutBytes left (cutoff left (elements p) k + 1) p (recordOf (length k) k)
   unfolding encodeAll encode
   cut-pivots-bytes b =
       rw (split-list left (elements p) k)
@@ -237,7 +223,7 @@ module _ (left : Bool) (p e : List ℕ) (k : Key) (h : first (edgeSlotCauses p e
   -- the edges written are the records kept and that of the cut edge
   pub cut-edges-bytes : Bytes e
       → encodeEdges (cutEdges left p e k)
-      ≡ beside left (keptPart left (edgePlace left (cutoff left (elements p) k)) e) (encodeEdge (cutSlotEdge left (elements p) (edges e) k))
+      ≡ cutBytes left (edgePlace left (cutoff left (elements p) k)) e (encodeEdge (cutSlotEdge left (elements p) (edges e) k))
   unfolding encodeEdges
   cut-edges-bytes b =
       rw (split-edges-list left (elements p) (edges e) k)

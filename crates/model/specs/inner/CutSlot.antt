@@ -23,17 +23,12 @@ cutUpto false pt k = pivotAt pt (CutoffForRight pt k + 1)
 abbrev pub cutSlotEdge : Bool → PivotTable → EdgeTable → Key → Edge
 cutSlotEdge left pt et k = edgeWithin pt et (cutoff left pt k) (cutFrom left pt k) (cutUpto left pt k)
 
--- ---- bytes: a cut leaves some of the records lent, and one new record beside them
+-- ---- bytes: a cut leaves some of the records lent, and a new one
 
--- the first n records, or those from place n on
-abbrev pub keptPart : Bool → ℕ → List ℕ → List ℕ
-keptPart true n l = take (n * recordSize) l
-keptPart false n l = drop (n * recordSize) l
-
--- what is kept and then what is new, or the other way round
-abbrev pub beside : Bool → List ℕ → List ℕ → List ℕ
-beside true kept new = kept ++ new
-beside false kept new = new ++ kept
+-- the first n records and then what is new, or what is new and then the records from place n on
+abbrev pub cutBytes : Bool → ℕ → List ℕ → List ℕ → List ℕ
+cutBytes true n l new = take (n * recordSize) l ++ new
+cutBytes false n l new = new ++ drop (n * recordSize) l
 
 -- the place among the edges, for a cut in slot c: the left keeps those before c, the right those after it
 abbrev pub edgePlace : Bool → ℕ → ℕ

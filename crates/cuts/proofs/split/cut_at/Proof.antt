@@ -1,11 +1,11 @@
 -- `cuts::cut_at` meets its contract.
 use mathlib.Core.Path.{refl}
-use Rattle.cuts.proofs.Writes.{edge-refused, edge-taken, edge-made, edge-passed}
+use Rattle.cuts.proofs.Writes.{edge-refused, edge-taken, edge-made}
 use borrow.Author.Needs.{needs}
 use Rattle.cuts.proofs.split.cut_at.Statement.{statement}
 use Rattle.cuts.proofs.split.cut_at.Tie as tie
 
-ruleset rules = (needs, refl, edge-refused, edge-taken, edge-made, edge-passed)
+ruleset rules = (needs, refl, edge-refused, edge-taken, edge-made)
 
 slice-aggregate-slot-edge : tie.Need-slice-aggregate-slot-edge
 slice-aggregate-slot-edge c = search rules
