@@ -3,7 +3,7 @@ use mathlib.Core.Path.{_≡_, refl, sym, _∙_}
 use mathlib.Core.Bool.{Bool, true, false}
 use mathlib.Core.List.{List, [], _++_, append-nil}
 use mathlib.Core.Option.{none}
-use Prim.Native.Nat.{ℕ, _+_, _*_, _-_, _/_, _≤_}
+use Prim.Native.Nat.{ℕ, _+_, _*_, _-_, _≤_}
 use native.Mathlib.Omega.{arith}
 use mir.Syntax.{w8, w16, w64}
 use mir.Val.{Fits}
@@ -18,14 +18,13 @@ use Rattle.model.specs.inner.Written.{clipped}
 use Rattle.model.specs.tables.Tables.{all, shortEdge}
 use Rattle.model.specs.cuts.Sides.{inside, cutoff}
 use Rattle.model.specs.calls.Refusals.{outcome, first, answer, leaves}
-use Rattle.model.specs.calls.CutCalls.{cutPivots, cutEdges, roomCauses, writeCauses}
+use Rattle.model.specs.calls.CutCalls.{cutPivots, cutEdges, writeCauses}
 use Rattle.model.specs.calls.TableCalls.{edgeSlotCauses}
 use Rattle.model.proofs.Lists.{rest, over-all, clipped-all}
 use Rattle.model.proofs.calls.Refusals.{refused-first, refused, accepted, passed, none-here}
-use Rattle.model.proofs.calls.Writing.{table-answered, table-pivots, table-edges}
 use Rattle.model.proofs.records.Record.{length-encodeEdge}
 use Rattle.model.proofs.keys.Key.{bytes-of}
-use Rattle.model.proofs.calls.CutCalls.{cut-slot-small, cut-key, cut-slot, cut-slot-edge, cut-short, cut-pivots-short, cut-pivots-bytes, cut-edges-bytes}
+use Rattle.model.proofs.calls.CutCalls.{cut-slot-small, cut-key, cut-slot, cut-slot-edge, cut-short, cut-pivots-bytes, cut-edges-bytes}
 use Rattle.cuts.specs.Slot.{edgeCut, longCauses}
 
 -- the place after a record is that of the next one
@@ -34,7 +33,7 @@ next-place n = omega arith
 
 module _ (left : Bool) (p e k : List ℕ) (c : ℕ) (h : first (edgeSlotCauses p e k (inside left (elements p) k)) ≡ none)
     (f : c ≡ cutoff left (elements p) k) where
-  -- ---- places
+  -- ---- places: that of the slot and the next, within pivots and edges
 
   pub key-fits : Fits w16 (length k)
   key-fits = record { fits = omega (arith, cut-key left p e k h) }
@@ -78,27 +77,16 @@ module _ (left : Bool) (p e k : List ℕ) (c : ℕ) (h : first (edgeSlotCauses p
     unfolding edgeCut
     right-edges l = cut-edges-bytes left p e k h (bytes-of e t) ∙ rw (f, u, l, next-place, rest)
 
-  -- ---- what is written
-
-  module _ (s : shortEdge (edgeCut left p e k) ≡ true) where
-    edges-short : all shortEdge (cutEdges left p e k) ≡ true
-    unfolding edgeCut
-    edges-short = cut-short left p e k h ∙ s
-
-    module _ (x y dp de : List ℕ) where
-      pub cut-answered : (z : Answer) → z ≡ answer (roomCauses (length x) (length y) dp de) (length x / 66) → encodeAll (cutPivots left p k) ≡ x → encodeEdges (cutEdges left p e k) ≡ y
-          → z ≡ answer (writeCauses (cutPivots left p k) (cutEdges left p e k) dp de) (length (cutPivots left p k))
-      cut-answered z q a b = table-answered _ _ x y a b (cut-pivots-short left p e k h) edges-short dp de z q
-
-      pub pivots-written : (w : List ℕ) → w ≡ leaves (roomCauses (length x) (length y) dp de) x dp → encodeAll (cutPivots left p k) ≡ x → encodeEdges (cutEdges left p e k) ≡ y
-          → w ≡ leaves (writeCauses (cutPivots left p k) (cutEdges left p e k) dp de) (encodeAll (cutPivots left p k)) dp
-      pivots-written w q a b = table-pivots _ _ x y a b (cut-pivots-short left p e k h) edges-short dp de w q
-
-      pub edges-written : (w : List ℕ) → w ≡ leaves (roomCauses (length x) (length y) dp de) y de → encodeAll (cutPivots left p k) ≡ x → encodeEdges (cutEdges left p e k) ≡ y
-          → w ≡ leaves (writeCauses (cutPivots left p k) (cutEdges left p e k) dp de) (encodeEdges (cutEdges left p e k)) de
-      edges-written w q a b = table-edges _ _ x y a b (cut-pivots-short left p e k h) edges-short dp de w q
-
 -- ---- the cut edge
+
+-- only the cut edge may be too long
+module _ (left : Bool) (p e k : List ℕ) (h : first (edgeSlotCauses p e k (inside left (elements p) k)) ≡ none) where
+  only-cut : all shortEdge (cutEdges left p e k) ≡ shortEdge (edgeCut left p e k)
+  unfolding edgeCut
+  only-cut = cut-short left p e k h
+
+  pub edges-short : shortEdge (edgeCut left p e k) ≡ true → all shortEdge (cutEdges left p e k) ≡ true
+  edges-short s = only-cut ∙ s
 
 module _ (left : Bool) (p e k : List ℕ) (z : Answer) (q : z ≡ answer (longCauses (edgeCut left p e k)) 1) where
   module _ (m : ℕ) (r : z ≡ answers.Value m) where
@@ -115,11 +103,6 @@ module _ (left : Bool) (p e k : List ℕ) (z : Answer) (q : z ≡ answer (longCa
         u ∙ sym (passed (λ (_ : Refusal). made) _ _ _ none-long refl) ∙ over-all (encodeEdge (edgeCut left p e k)) made (omega (arith, i, t))
 
   module _ {A : Type 0} (g : Refusal → A) (v x : A) (dp de : List ℕ) (h : first (edgeSlotCauses p e k (inside left (elements p) k)) ≡ none) where
-    -- only the cut edge may be too long
-    only-cut : all shortEdge (cutEdges left p e k) ≡ shortEdge (edgeCut left p e k)
-    unfolding edgeCut
-    only-cut = cut-short left p e k h
-
     pub edge-refused : (y : Refusal) → z ≡ answers.Refused y → x ≡ g y → x ≡ outcome g (writeCauses (cutPivots left p k) (cutEdges left p e k) dp de) v
     edge-refused y r w =
-        rw only-cut (refused-first g v x (longCauses (edgeCut left p e k)) _ y (refused _ 1 z q y r) w)
+        rw (only-cut left p e k h) (refused-first g v x (longCauses (edgeCut left p e k)) _ y (refused _ 1 z q y r) w)

@@ -1,11 +1,13 @@
 -- `cuts::write_at` meets its contract.
 use Rattle.model.proofs.Lists.{part-counts}
-use Rattle.cuts.proofs.Writes.{key-fits, at-fits, next-fits, pivots-at, pivots-next, edges-at, edges-next, left-pivots, right-pivots, left-edges, right-edges, cut-answered, pivots-written, edges-written}
+use Rattle.model.proofs.calls.CutCalls.{cut-pivots-short}
+use Rattle.model.proofs.calls.Writing.{table-answered, table-pivots, table-edges}
+use Rattle.cuts.proofs.Writes.{key-fits, at-fits, next-fits, pivots-at, pivots-next, edges-at, edges-next, left-pivots, right-pivots, left-edges, right-edges, edges-short}
 use borrow.Author.Needs.{needs}
 use Rattle.cuts.proofs.split.write_at.Statement.{statement}
 use Rattle.cuts.proofs.split.write_at.Tie as tie
 
-ruleset rules = (needs, part-counts, key-fits, at-fits, next-fits, pivots-at, pivots-next, edges-at, edges-next, left-pivots, right-pivots, left-edges, right-edges, cut-answered, pivots-written, edges-written)
+ruleset rules = (needs, part-counts, key-fits, at-fits, next-fits, pivots-at, pivots-next, edges-at, edges-next, left-pivots, right-pivots, left-edges, right-edges, cut-pivots-short, edges-short, table-answered, table-pivots, table-edges)
 
 cast-record-of : tie.Need-cast-record-of
 cast-record-of c = search rules
