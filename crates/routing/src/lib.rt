@@ -1,13 +1,14 @@
 // The slot of a key in a table. No public function has a `requires`.
 use model::Answer;
 use model::MAX_LEN;
+use model::MAX_PIVOTS;
 use model::RECORD_SIZE;
 use model::Refusal;
 use model::Routed;
 ghost use mathlib.Core.Path.{_≡_};
 ghost use mathlib.Core.Bool.{true, not};
 ghost use mathlib.Core.List.{_∷_, []};
-ghost use Rattle.model.specs.declared.Refusal.the-variants.{OutOfRange, AlreadyPivot};
+ghost use Rattle.model.specs.declared.Refusal.the-variants.{OutOfRange, AlreadyPivot, TooManyPivots};
 ghost use Rattle.model.specs.keys.Order.{key, passes, lastPlace};
 ghost use Rattle.model.specs.records.Record.{elements};
 ghost use Rattle.model.specs.tables.Tables.{WFPivots, ContainsRange, Route, isPivot};
@@ -15,7 +16,7 @@ ghost use Rattle.model.specs.calls.Refusals.{_⇒_, routing, slotAnswer};
 ghost use Rattle.model.specs.calls.TableCalls.{slotCauses, routeAnswer, cutoffForLeftAnswer, cutoffForRightAnswer};
 ghost use Rattle.model.specs.cuts.Sides.{inside, cutoff};
 ghost use Rattle.model.specs.calls.TableCalls.{edgeSlotCauses};
-ghost use Rattle.model.specs.calls.InsertionCalls.{newPivotCauses};
+ghost use Rattle.model.specs.calls.InsertionCalls.{insertedPivots, tooManyPivots, newPivotCauses};
 
 // How many pivots are not above the key or, where strict, below it: they stand first.
 fn place(pivots: &[u8], k: &[u8], strict: bool) -> usize
@@ -68,25 +69,30 @@ pub fn slot_with_edges(pivots: &[u8], edges: &[u8], k: &[u8], left: bool) -> Rou
     }
 }
 
-// The slot in which the key lies strictly. Causes 5 and 11.
+// The slot that the key is inserted into. Causes 5, 11 and 12.
 fn new_slot_of(pivots: &[u8], k: &[u8]) -> Routed
     requires { ⌜ WFPivots (elements (now pivots)) ≡ true ⌝ }
-    ensures { λ r. ⌜ r ≡ routing ((not (ContainsRange (elements (now (pivots .entry))) (key (now (k .entry))) (key (now (k .entry)))) ⇒ OutOfRange) ∷ (isPivot (elements (now (pivots .entry))) (now (k .entry)) ⇒ AlreadyPivot) ∷ []) (Route (elements (now (pivots .entry))) (now (k .entry))) ⌝ }
+    ensures { λ r. ⌜ r ≡ routing ((not (ContainsRange (elements (now (pivots .entry))) (key (now (k .entry))) (key (now (k .entry)))) ⇒ OutOfRange) ∷ (isPivot (elements (now (pivots .entry))) (now (k .entry)) ⇒ AlreadyPivot) ∷ (tooManyPivots (insertedPivots (now (pivots .entry)) (now (k .entry))) ⇒ TooManyPivots) ∷ []) (Route (elements (now (pivots .entry))) (now (k .entry))) ⌝ }
 {
     let n = place(pivots, k, false);
     if n == 0 {
         return Routed::Refused(Refusal::OutOfRange);
     }
-    if !keys::passes(records::record_at(pivots, n - 1), k, true) {
+    let below = keys::passes(records::record_at(pivots, n - 1), k, true);
+    let count = pivots.len() / RECORD_SIZE;
+    if !below {
         return Routed::Refused(Refusal::AlreadyPivot);
     }
-    if n == pivots.len() / RECORD_SIZE {
+    if n == count {
         return Routed::Refused(Refusal::OutOfRange);
+    }
+    if MAX_PIVOTS <= count {
+        return Routed::Refused(Refusal::TooManyPivots);
     }
     Routed::Slot(n - 1)
 }
 
-// Causes 1 to 5 and 11 of a table with its edges and a key to be inserted; else the slot that it is inserted into.
+// Causes 1 to 5, 11 and 12 of a table with its edges and a key to be inserted; else the slot that it is inserted into.
 pub fn new_pivot_slot(pivots: &[u8], edges: &[u8], k: &[u8]) -> Routed
     ensures { λ r. ⌜ r ≡ routing (newPivotCauses (now (pivots .entry)) (now (edges .entry)) (now (k .entry))) (Route (elements (now (pivots .entry))) (now (k .entry))) ⌝ }
 {

@@ -1,23 +1,23 @@
--- An insertion by its bytes: the slot of a key that has none of the causes 1 to 5 and 11, and which records are written.
+-- An insertion by its bytes: the slot of a key that has none of the causes 1 to 5, 11 and 12, and which records are written.
 use mathlib.Core.Path.{_≡_, sym, _∙_}
 use mathlib.Core.Bool.{Bool, true, false, not, _&&_, and-true}
 use mathlib.Core.List.{List, [], _∷_, _++_, append-nil}
 use mathlib.Core.Option.{none, some}
 use Prim.Native.Nat.{ℕ, _+_, _*_, _/_, _≤_}
 use native.Mathlib.Omega.{arith}
-use borrow.Author.Tests.{not-false}
+use borrow.Author.Tests.{not-false, ltb-false}
 use lib.ListN.{length, take, drop}
-use Rattle.model.specs.declared.Refusal.the-variants.{OutOfRange, AlreadyPivot}
+use Rattle.model.specs.declared.Refusal.the-variants.{OutOfRange, AlreadyPivot, TooManyPivots}
 use Rattle.model.specs.keys.Key.{Key, Bytes, maxLen, tooLong}
 use Rattle.model.specs.keys.Order.{key}
 use Rattle.model.specs.records.Record.{Edge, recordSize, elements, edges, recordOf, encode, encodeEdge, joined, encodeAll, encodeEdges}
-use Rattle.model.specs.tables.Tables.{all, shortElement, shortEdge, WFPivots, ContainsRange, Route, isPivot}
+use Rattle.model.specs.tables.Tables.{maxPivots, all, shortElement, shortEdge, WFPivots, ContainsRange, Route, isPivot}
 use Rattle.model.specs.cuts.Insertion.{InsertPivot, InsertPivotEdges}
 use Rattle.model.specs.cuts.Sides.{inside, cutoff}
 use Rattle.model.specs.inner.CutSlot.{cutSlotEdge}
 use Rattle.model.specs.calls.Refusals.{_⇒_, outcome, first}
 use Rattle.model.specs.calls.TableCalls.{tableCauses, edgeSlotCauses}
-use Rattle.model.specs.calls.InsertionCalls.{insertedPivots, insertedEdges, newPivotCauses}
+use Rattle.model.specs.calls.InsertionCalls.{insertedPivots, insertedEdges, tooManyPivots, newPivotCauses}
 use Rattle.model.proofs.Lists.{all-append, all-parts}
 use Rattle.model.proofs.calls.Refusals.{none-here, none-later, none-before, none-after, after}
 use Rattle.model.proofs.records.Record.{length-encode, length-encodeEdge}
@@ -40,15 +40,21 @@ module _ (p e : List ℕ) (k : Key) (h : first (newPivotCauses p e k) ≡ none) 
   wf = table-wf false (tooLong k) p e insert-table
 
   -- and the key neither 5 nor 11
-  range : first ((not (ContainsRange (elements p) (key k) (key k)) ⇒ OutOfRange) ∷ (isPivot (elements p) k ⇒ AlreadyPivot) ∷ []) ≡ none
+  range : first ((not (ContainsRange (elements p) (key k) (key k)) ⇒ OutOfRange) ∷
+      (isPivot (elements p) k ⇒ AlreadyPivot) ∷
+      (tooManyPivots (insertedPivots p k) ⇒ TooManyPivots) ∷ []) ≡ none
   range = none-after (tableCauses false (tooLong k) p e) _ h
 
   -- so it lies strictly in its slot
   pub insert-strictly : Strictly (elements p) c k
   insert-strictly =
-      new-strictly (elements p) k wf (not-false _ (none-here _ OutOfRange _ range)) (none-here _ AlreadyPivot [] (none-later _ OutOfRange _ range))
+      new-strictly (elements p) k wf (not-false _ (none-here _ OutOfRange _ range)) (none-here _ AlreadyPivot _ (none-later _ OutOfRange _ range))
 
-  -- has at most 64 bytes
+  -- nor 12
+  pub insert-few : length (insertedPivots p k) ≤ maxPivots
+  insert-few = ltb-false maxPivots _ (none-here _ TooManyPivots [] (none-later _ AlreadyPivot _ (none-later _ OutOfRange _ range)))
+
+  -- the key has at most 64 bytes
   pub insert-key : length k ≤ maxLen
   insert-key = wrong-key false p e k insert-table
 

@@ -24,7 +24,7 @@ use Rattle.model.proofs.calls.Refusals.{passed, followed, none-here, no
 use Rattle.model.proofs.calls.TableCalls.{table-wf, table-wrong, table-edges, table-bytes}
 use Rattle.model.proofs.calls.WrittenTables.{wf-table-causes, bytes-encodeAll}
 use Rattle.model.proofs.calls.Alike.{slot-first, alike, alike-outside}
-use Rattle.model.proofs.calls.InsertionCalls.{insert-table, insert-strictly, insert-key}
+use Rattle.model.proofs.calls.InsertionCalls.{insert-table, insert-strictly, insert-few, insert-key}
 use Rattle.model.proofs.records.Records.{length-encodeAll, length-encodeEdges, elements-encodeAll, edges-encodeEdges}
 use Rattle.model.proofs.tables.Routing.{wf-all-short}
 use Rattle.model.proofs.tables.NewPivot.{strictly-inside}
@@ -36,7 +36,7 @@ use Rattle.model.proofs.cuts.Insertion.{insert-length, insert-wf, inser
 -- ---- an accepted insertion
 
 module _ (p e : List ℕ) (k : Key) (b : Bytes p) (g : Bytes k) (h : first (newPivotCauses p e k) ≡ none)
-    (m : tooManyPivots (insertedPivots p k) ≡ false) (s : all shortEdge (insertedEdges p e k) ≡ true) where
+    (s : all shortEdge (insertedEdges p e k) ≡ true) where
   -- the new pivots and edges
   abbrev pt : PivotTable
   pt = insertedPivots p k
@@ -78,7 +78,7 @@ module _ (p e : List ℕ) (k : Key) (b : Bytes p) (g : Bytes k) (h : first (newP
   old-table = rw (table-wrong _ _ p e (insert-table p e k h)) at (insert-table p e k h)
 
   new-table : first (tableCauses false false (encodeAll pt) (encodeEdges et)) ≡ none
-  new-table = wf-table-causes pt et new-wf (ltb-false maxPivots (length pt) m) new-fits s false refl
+  new-table = wf-table-causes pt et new-wf (insert-few p e k h) new-fits s false refl
 
   -- a key is bounded by both or by neither
   same-keys : (j : Key) → BoundedKey (elements (encodeAll pt)) j ≡ BoundedKey (elements p) j
@@ -147,31 +147,28 @@ module _ (p e : List ℕ) (k : Key) (d : Dests) (n : ℕ) (p′ e′ : List ℕ)
   was-new : first (newPivotCauses p e k) ≡ none
   was-new = none-before (newPivotCauses p e k) _ no-cause
 
-  was-few : tooManyPivots (insertedPivots p k) ≡ false
-  was-few = none-here _ TooManyPivots _ (none-after (newPivotCauses p e k) _ no-cause)
-
   was-short : all shortEdge (insertedEdges p e k) ≡ true
-  was-short = not-false _ (none-here _ TooLong _ (none-later _ TooManyPivots _ (none-after (newPivotCauses p e k) _ no-cause)))
+  was-short = not-false _ (none-here _ TooLong _ (none-after (newPivotCauses p e k) _ no-cause))
 
   module _ (b : Bytes p) (g : Bytes k) where
     -- so it wrote the records of its pivots and edges
     was-written : wrote (length (insertedPivots p k)) (encodeAll (insertedPivots p k)) (encodeEdges (insertedEdges p e k)) ≡ wrote n p′ e′
-    was-written = sym (ends-inserted p e k b g was-new was-few was-short d no-cause) ∙ a
+    was-written = sym (ends-inserted p e k b g was-new was-short d no-cause) ∙ a
 
     -- what it leaves is what is asked
     pub insert-leaves : Inserted p e k n p′ e′
-    insert-leaves = subst (Kept p e k) was-written (leaves-inserted p e k b g was-new was-few was-short)
+    insert-leaves = subst (Kept p e k) was-written (leaves-inserted p e k b g was-new was-short)
 
     -- its pivots are again bytes
     pub insert-leaves-bytes : Bytes p′
     insert-leaves-bytes =
         let w : encodeAll (insertedPivots p k) ≡ p′ = let v = was-written in cc in
-        rw (← w) (bytes-encodeAll _ (wf-all-short _ (new-wf p e k b g was-new was-few was-short)) (new-bytes p e k b g was-new was-few was-short))
+        rw (← w) (bytes-encodeAll _ (wf-all-short _ (new-wf p e k b g was-new was-short)) (new-bytes p e k b g was-new was-short))
 
     -- and bound the same keys
     pub insert-bounded-bytes : (j : Key) → BoundedKey (elements p′) j ≡ BoundedKey (elements p) j
     insert-bounded-bytes j =
-        rw (insert-leaves .pivots, ← pivots-back p e k b g was-new was-few was-short) (same-keys p e k b g was-new was-few was-short j)
+        rw (insert-leaves .pivots, ← pivots-back p e k b g was-new was-short) (same-keys p e k b g was-new was-short j)
 
 -- ---- the claim
 

@@ -7,6 +7,7 @@ use mathlib.Core.Option.{none, some}
 use Prim.Native.Nat.{ℕ, _*_}
 use native.Mathlib.Omega.{arith}
 use lib.ListN.{length}
+use Rattle.model.specs.declared.Refusal.{Refusal}
 use Rattle.model.specs.declared.Refusal.the-variants.{AlreadyPivot, TooManyPivots, TooLong}
 use Rattle.model.specs.declared.Answer.the-variants as answers
 use Rattle.model.specs.keys.Key.{Key, tooLong}
@@ -79,30 +80,28 @@ module _ (p e : List ℕ) (k : Key) where
   -- ---- an insertion
 
   module _ (d : Dests) where
-    -- what follows the causes of the key
-    abbrev rest : List Cause
-    rest = (tooManyPivots (insertedPivots p k) ⇒ TooManyPivots) ∷ writeCauses (insertedPivots p k) (insertedEdges p e k) (d .forPivots) (d .forEdges)
+    abbrev written : List Cause
+    written = writeCauses (insertedPivots p k) (insertedEdges p e k) (d .forPivots) (d .forEdges)
 
-    -- refused with 8, it had none of those, and a long edge
+    -- refused with 8, it had none of the causes of the key, and a long edge
     insert-8 : longInsert p e k d → (first (newPivotCauses p e k) ≡ none) × (all shortEdge (insertedEdges p e k) ≡ false)
     unfolding tableCauses pivotCauses
     insert-8 h =
-        let l = lacking TooLong (newPivotCauses p e k) rest refl (refused (newPivotCauses p e k ++ rest) (length (insertedPivots p k)) _ refl TooLong h) in
-        let m = lacking TooLong ((tooManyPivots (insertedPivots p k) ⇒ TooManyPivots) ∷ []) (writeCauses (insertedPivots p k) (insertedEdges p e k) (d .forPivots) (d .forEdges)) refl (l .1) in
-        (l .0, says-long (insertedPivots p k) (insertedEdges p e k) (d .forPivots) (d .forEdges) (m .1))
+        let l = lacking TooLong (newPivotCauses p e k) written refl (refused (newPivotCauses p e k ++ written) (length (insertedPivots p k)) _ refl TooLong h) in
+        (l .0, says-long (insertedPivots p k) (insertedEdges p e k) (d .forPivots) (d .forEdges) (l .1))
 
-    -- and it is refused where it has none of them, no 12 and a long edge
-    insert-long : first (newPivotCauses p e k) ≡ none → tooManyPivots (insertedPivots p k) ≡ false → all shortEdge (insertedEdges p e k) ≡ false → longInsert p e k d
-    insert-long h m f =
+    -- and it is refused where it has none of them and a long edge
+    insert-long : first (newPivotCauses p e k) ≡ none → all shortEdge (insertedEdges p e k) ≡ false → longInsert p e k d
+    insert-long h f =
         let w = long-says (insertedPivots p k) (insertedEdges p e k) (d .forPivots) (d .forEdges) f in
-        sym (after answers.Refused _ _ (newPivotCauses p e k) _ h
-        (later answers.Refused _ _ _ TooManyPivots _ m (refused-by answers.Refused _ _ _ TooLong w refl)))
+        sym (after answers.Refused _ _ (newPivotCauses p e k) _ h (refused-by answers.Refused _ _ _ TooLong w refl))
 
-    -- where a cut is refused with 8 the key has no cause but 11
+    -- where a cut has none of the causes 1 to 5 the key has none but 11 and 12
     new-unless : (left : Bool) → first (edgeSlotCauses p e k (inside left (elements p) k)) ≡ none
-        → (insertAnswer p e k (d .forPivots) (d .forEdges) ≡ answers.Refused AlreadyPivot → ⊥) → first (newPivotCauses p e k) ≡ none
+        → (insertAnswer p e k (d .forPivots) (d .forEdges) ≡ answers.Refused AlreadyPivot → ⊥)
+        → (insertAnswer p e k (d .forPivots) (d .forEdges) ≡ answers.Refused TooManyPivots → ⊥) → first (newPivotCauses p e k) ≡ none
     unfolding outcome
-    new-unless left h f = go (isPivot (elements p) k) refl
+    new-unless left h f g = go (isPivot (elements p) k) (tooManyPivots (insertedPivots p k)) refl refl
       where
         contained : ContainsRange (elements p) (key k) (key k) ≡ true
         contained = inside-contained left (elements p) k (cut-inside left p e k h)
@@ -110,20 +109,13 @@ module _ (p e : List ℕ) (k : Key) where
         table : first (tableCauses false (tooLong k) p e) ≡ none
         table = cut-table left p e k h
 
-        go : (t : Bool) → isPivot (elements p) k ≡ t → first (newPivotCauses p e k) ≡ none
-        go true i =
-            let w : some AlreadyPivot ≡ first (newPivotCauses p e k) = after some none _ (tableCauses false (tooLong k) p e) _ table (rw (contained, i)) in
-            absurd (f (sym (refused-first answers.Refused _ _ (newPivotCauses p e k) rest AlreadyPivot (sym w) refl)))
-        go false i = sym (after some none _ (tableCauses false (tooLong k) p e) _ table (rw (contained, i)))
+        answered : (r : Refusal) → first (newPivotCauses p e k) ≡ some r → insertAnswer p e k (d .forPivots) (d .forEdges) ≡ answers.Refused r
+        answered r w = sym (refused-first answers.Refused _ _ (newPivotCauses p e k) written r w refl)
 
-    -- nor is there 12
-    few-unless : first (newPivotCauses p e k) ≡ none
-        → (insertAnswer p e k (d .forPivots) (d .forEdges) ≡ answers.Refused TooManyPivots → ⊥) → tooManyPivots (insertedPivots p k) ≡ false
-    few-unless h f = go (tooManyPivots (insertedPivots p k)) refl
-      where
-        go : (t : Bool) → tooManyPivots (insertedPivots p k) ≡ t → t ≡ false
-        go true i = absurd (f (sym (after answers.Refused _ _ (newPivotCauses p e k) _ h (here answers.Refused _ _ _ TooManyPivots _ i refl))))
-        go false i = refl
+        go : (t u : Bool) → isPivot (elements p) k ≡ t → tooManyPivots (insertedPivots p k) ≡ u → first (newPivotCauses p e k) ≡ none
+        go true u i j = absurd (f (answered AlreadyPivot (sym (after some none _ (tableCauses false (tooLong k) p e) _ table (rw (contained, i))))))
+        go false true i j = absurd (g (answered TooManyPivots (sym (after some none _ (tableCauses false (tooLong k) p e) _ table (rw (contained, i, j))))))
+        go false false i j = sym (after some none _ (tableCauses false (tooLong k) p e) _ table (rw (contained, i, j)))
 
   -- of two edges that are not both short one is long
   long-edge : (a b : Bool) → (a && b) ≡ false → (a ≡ false) ⊎ (b ≡ false)
@@ -152,5 +144,5 @@ module _ (p e : List ℕ) (k : Key) where
           → (insertAnswer p e k (d .forPivots) (d .forEdges) ≡ answers.Refused TooManyPivots → ⊥) → longInsert p e k d
       inserted left c h f g =
           let w = cut-8 left c h in
-          let new = new-unless d left (w .0) f in
-          insert-long d new (few-unless d new g) (insert-short p e k new ∙ long-half left (sym (cut-short left p e k (w .0)) ∙ w .1))
+          let new = new-unless d left (w .0) f g in
+          insert-long d new (insert-short p e k new ∙ long-half left (sym (cut-short left p e k (w .0)) ∙ w .1))

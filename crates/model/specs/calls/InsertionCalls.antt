@@ -22,21 +22,21 @@ insertedPivots p k = InsertPivot (elements p) (Route (elements p) k + 1) k
 abbrev pub insertedEdges : List ℕ → List ℕ → Key → EdgeTable
 insertedEdges p e k = InsertPivotEdges (edges e) (elements p) k
 
--- "A key below the first or above the last pivot is 5; one equal to any pivot, first and last included, is 11"
-abbrev pub newPivotCauses : List ℕ → List ℕ → Key → List Cause
-newPivotCauses p e k =
-    tableCauses false (tooLong k) p e
-    ++ ((not (ContainsRange (elements p) (key k) (key k)) ⇒ OutOfRange) ∷ (isPivot (elements p) k ⇒ AlreadyPivot) ∷ [])
-
 -- "the table would pass 64 pivots"
 abbrev pub tooManyPivots : PivotTable → Bool
 tooManyPivots pt = ltb maxPivots (length pt)
 
+-- of the table and the key: "A key below the first or above the last pivot is 5; one equal to any pivot, first and last included, is 11"; 12 is "directly after 11"
+abbrev pub newPivotCauses : List ℕ → List ℕ → Key → List Cause
+newPivotCauses p e k =
+    tableCauses false (tooLong k) p e
+    ++ ((not (ContainsRange (elements p) (key k) (key k)) ⇒ OutOfRange) ∷
+    (isPivot (elements p) k ⇒ AlreadyPivot) ∷
+    (tooManyPivots (insertedPivots p k) ⇒ TooManyPivots) ∷ [])
+
 -- k into pivots p with edges e; the pivots go into dp and the edges into de
 abbrev pub insertCauses : List ℕ → List ℕ → Key → List ℕ → List ℕ → List Cause
-insertCauses p e k dp de =
-    newPivotCauses p e k
-    ++ ((tooManyPivots (insertedPivots p k) ⇒ TooManyPivots) ∷ writeCauses (insertedPivots p k) (insertedEdges p e k) dp de)
+insertCauses p e k dp de = newPivotCauses p e k ++ writeCauses (insertedPivots p k) (insertedEdges p e k) dp de
 
 -- "Insertion, like every later call that writes a table, answers the number of pivots written"
 abbrev pub insertAnswer : List ℕ → List ℕ → Key → List ℕ → List ℕ → Answer

@@ -1,5 +1,5 @@
 -- `routing::new_slot_of` meets its contract.
-use Rattle.routing.proofs.Inserting.{below-all, a-pivot, above-all, strictly-in}
+use Rattle.routing.proofs.Inserting.{below-all, a-pivot, above-all, full-table, strictly-in}
 use borrow.Author.Needs.{needs}
 use Rattle.routing.proofs.new_slot_of.Statement.{statement}
 use Rattle.routing.proofs.new_slot_of.Tie as tie
@@ -27,14 +27,20 @@ returns-2 c = search rules
 returns-3 : tie.Need-returns-3
 returns-3 c = search rules
 
-sub-t7 : tie.Need-sub-t7
-sub-t7 c = search rules
-
 returns-4 : tie.Need-returns-4
 returns-4 c =
-    let last = c .before .before .before .record-at .ensures in
-    let below = c .before .before .passes .ensures in
-    strictly-in _ _ _ (search rules) (search rules) (search rules) _ _ last below (search rules) (search rules)
+    let last = c .before .before .before .before .record-at .ensures in
+    let below = c .before .before .before .passes .ensures in
+    full-table _ _ _ (search rules) (search rules) (search rules) _ _ last below (search rules) (search rules) (search rules)
+
+sub-t9 : tie.Need-sub-t9
+sub-t9 c = search rules
+
+returns-5 : tie.Need-returns-5
+returns-5 c =
+    let last = c .before .before .before .before .record-at .ensures in
+    let below = c .before .before .before .passes .ensures in
+    strictly-in _ _ _ (search rules) (search rules) (search rules) _ _ last below (search rules) (search rules) (search rules)
 
 pub new-slot-of-spec : {M : Type 1} → statement M
 new-slot-of-spec =
@@ -47,5 +53,6 @@ new-slot-of-spec =
     passes-requires
     returns-2
     returns-3
-    sub-t7
-    returns-4)
+    returns-4
+    sub-t9
+    returns-5)
