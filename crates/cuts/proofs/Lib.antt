@@ -1,3 +1,4 @@
 pub mod Edges
 pub mod Slots
 pub mod Writes
+pub mod Inserts

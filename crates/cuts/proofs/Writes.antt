@@ -28,7 +28,7 @@ use Rattle.model.proofs.calls.CutCalls.{cut-slot-small, cut-key, cut-slot, cut-
 use Rattle.cuts.specs.Slot.{edgeCut, longCauses}
 
 -- the place after a record is that of the next one
-next-place : (n : ℕ) → (n + 1) * recordSize ≡ n * 66 + 66
+pub next-place : (n : ℕ) → (n + 1) * recordSize ≡ n * 66 + 66
 next-place n = omega arith
 
 module _ (left : Bool) (p e k : List ℕ) (c : ℕ) (h : first (edgeSlotCauses p e k (inside left (elements p) k)) ≡ none)

@@ -1,24 +1,21 @@
 -- The scan for the last pivot that passes, and the slot it ends in.
-use mathlib.Core.Path.{_≡_, refl, sym, ap, _∙_}
+use mathlib.Core.Path.{_≡_, refl, sym, _∙_}
 use mathlib.Core.Bool.{Bool, true, false, not, _&&_}
 use mathlib.Core.List.{List, [], _∷_}
-use Prim.Native.Nat.{ℕ, suc, _+_, _-_, _/_, _≤_, _<_}
+use Prim.Native.Nat.{ℕ, _+_, _-_, _/_, _≤_, _<_}
 use native.Mathlib.Omega.{arith}
 use borrow.Author.Tests.{not-true, not-false, lt-ltb, le-ltb}
 use lib.Dec.{ltb}
 use lib.ListN.{length}
 use Rattle.model.specs.declared.Refusal.the-variants.{OutOfRange}
-use Rattle.model.specs.declared.Refusal.{Refusal}
-use Rattle.model.specs.declared.Answer.{Answer}
 use Rattle.model.specs.declared.Answer.the-variants as answers
-use Rattle.model.specs.declared.Routed.{Routed}
 use Rattle.model.specs.declared.Routed.the-variants.{Slot, Refused}
 use Rattle.model.specs.keys.Key.{Key}
-use Rattle.model.specs.keys.Order.{Element, key, passes, lastPlace, LargestLte, LargestLt}
+use Rattle.model.specs.keys.Order.{key, passes, lastPlace, LargestLte, LargestLt}
 use Rattle.model.specs.records.Record.{element, elements}
 use Rattle.model.specs.inner.Places.{recordAt}
-use Rattle.model.specs.tables.Tables.{PivotTable, pivotAt, lastPivot, IsStrictlySorted, WFPivots, BoundedKey, ValidLeftCutOffKey, Route, CutoffForLeft, CutoffForRight}
-use Rattle.model.specs.calls.Refusals.{_⇒_, outcome, routing}
+use Rattle.model.specs.tables.Tables.{PivotTable, pivotAt, WFPivots, Route, CutoffForLeft, CutoffForRight}
+use Rattle.model.specs.calls.Refusals.{_⇒_, routing}
 use Rattle.model.proofs.calls.Refusals.{here, later, slot-done}
 use Rattle.model.proofs.tables.Places.{place-turn, place-all, place-most, bounded-place, valid-place}
 use Rattle.model.proofs.tables.Routing.{wf-sorted, wf-count}

@@ -3,7 +3,7 @@ use mathlib.Core.Path.{_≡_, refl, _∙_}
 use mathlib.Core.Bool.{Bool, true, false, and-true, true≢false}
 use mathlib.Core.List.{List, [], _∷_, _++_, map, append-nil}
 use mathlib.Core.Option.{none}
-use Prim.Native.Nat.{ℕ, _+_, _*_, _/_, _≤_, _<_}
+use Prim.Native.Nat.{ℕ, _+_, _/_, _≤_, _<_}
 use native.Mathlib.Omega.{arith}
 use borrow.Author.Tests.{leb-true, le-leb, not-false}
 use mir.Syntax.{w64}
@@ -30,7 +30,7 @@ use Rattle.model.proofs.records.Record.{length-encode, length-encodeEdg
 use Rattle.model.proofs.records.Records.{joined-append, joined-take, joined-drop}
 use Rattle.model.proofs.tables.Routing.{wf-keys, wf-short, wf-all-short}
 use Rattle.model.proofs.calls.TableCalls.{length-elements, length-edges, element-at, edge-at}
-use Rattle.model.proofs.calls.TableCalls.{table-wf, table-most, table-whole, table-count, table-edges-whole, table-edges-short, wrong-key}
+use Rattle.model.proofs.calls.TableCalls.{table-wf, table-most, table-count, table-edges-short, wrong-key}
 use Rattle.model.proofs.calls.TableCalls.{table-bytes, table-encode, table-encode-edges}
 use Rattle.model.proofs.calls.PivotKeys.{key-element}
 use Rattle.model.proofs.cuts.Between.{bytes-at}

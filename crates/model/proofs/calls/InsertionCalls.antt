@@ -5,7 +5,7 @@ use mathlib.Core.List.{List, [], _∷_, _++_, append-nil}
 use mathlib.Core.Option.{none, some}
 use Prim.Native.Nat.{ℕ, _+_, _*_, _/_, _≤_}
 use native.Mathlib.Omega.{arith}
-use borrow.Author.Tests.{not-false, ltb-false}
+use borrow.Author.Tests.{not-false, ltb-false, le-leb}
 use lib.ListN.{length, take, drop}
 use Rattle.model.specs.declared.Refusal.the-variants.{OutOfRange, AlreadyPivot, TooManyPivots}
 use Rattle.model.specs.keys.Key.{Key, Bytes, maxLen, tooLong}
@@ -84,6 +84,14 @@ module _ (p e : List ℕ) (k : Key) (h : first (newPivotCauses p e k) ≡ none) 
   edges-list : insertedEdges p e k ≡ take c (edges e) ++ ((leftEdge ∷ rightEdge ∷ []) ++ drop (c + 1) (edges e))
   unfolding InsertPivotEdges
   edges-list = rw (← insert-cutoff true, ← insert-cutoff false)
+
+  -- no pivot is too long
+  pub insert-pivots-short : all shortElement (insertedPivots p k) ≡ true
+  unfolding InsertPivot all
+  insert-pivots-short =
+      let s = wf-all-short (elements p) wf in
+      rw (all-append shortElement (take (c + 1) (elements p)) _, all-parts shortElement (c + 1) (elements p) s .0, le-leb (length k) maxLen insert-key)
+      (all-parts shortElement (c + 1) (elements p) s .1)
 
   pub insert-pivots-bytes : Bytes p
       → encodeAll (insertedPivots p k) ≡ take ((c + 1) * recordSize) p ++ (recordOf (length k) k ++ drop ((c + 1) * recordSize) p)
