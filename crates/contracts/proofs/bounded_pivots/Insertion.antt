@@ -33,6 +33,7 @@ further k [] (suc idx) i h = refl
 further k (p ∷ pt) (suc idx) zero h = absurd (omega arith)
 further k (p ∷ pt) (suc idx) (suc i) h = further k pt idx i (omega arith)
 
+-- function InsertPivot(pt: PivotTable, idx: int, key: Key) : PivotTable
 -- insert(pt, KeyToElement(key), idx): the key at place idx, each pivot before it in its place, each other one place further on
 pub bounded-pivots-287 : (pt : PivotTable) (idx : ℕ) (k : Key) → idx ≤ length pt
     → (length (InsertPivot pt idx k) ≡ length pt + 1) × (pivotAt (InsertPivot pt idx k) idx ≡ key k)
