@@ -78,7 +78,8 @@ fn new_slot_of(pivots: &[u8], k: &[u8]) -> Routed
     if n == 0 {
         return Routed::Refused(Refusal::OutOfRange);
     }
-    let below = keys::passes(records::record_at(pivots, n - 1), k, true);
+    let slot = n - 1;
+    let below = keys::passes(records::record_at(pivots, slot), k, true);
     let count = pivots.len() / RECORD_SIZE;
     if !below {
         return Routed::Refused(Refusal::AlreadyPivot);
@@ -89,7 +90,7 @@ fn new_slot_of(pivots: &[u8], k: &[u8]) -> Routed
     if MAX_PIVOTS <= count {
         return Routed::Refused(Refusal::TooManyPivots);
     }
-    Routed::Slot(n - 1)
+    Routed::Slot(slot)
 }
 
 // Causes 1 to 5, 11 and 12 of a table with its edges and a key to be inserted; else the slot that it is inserted into.

@@ -12,8 +12,8 @@ place-requires c κs = search rules
 returns : tie.Need-returns
 returns c = search rules
 
-sub-record-at : tie.Need-sub-record-at
-sub-record-at c = search rules
+sub-slot : tie.Need-sub-slot
+sub-slot c = search rules
 
 record-at-requires : tie.Need-record-at-requires
 record-at-requires c κs = search rules
@@ -33,9 +33,6 @@ returns-4 c =
     let below = c .before .before .before .passes .ensures in
     full-table _ _ _ (search rules) (search rules) (search rules) _ _ last below (search rules) (search rules) (search rules)
 
-sub-t9 : tie.Need-sub-t9
-sub-t9 c = search rules
-
 returns-5 : tie.Need-returns-5
 returns-5 c =
     let last = c .before .before .before .before .record-at .ensures in
@@ -48,11 +45,10 @@ new-slot-of-spec =
     (tie.spec
     place-requires
     returns
-    sub-record-at
+    sub-slot
     record-at-requires
     passes-requires
     returns-2
     returns-3
     returns-4
-    sub-t9
     returns-5)
