@@ -1,28 +1,31 @@
--- The sixteen rows hold, T's list is the one in document 01, T's pivots are renamed, 4 comes before 5, and what a bucket's destination must hold.
+-- The sixteen rows hold, T's list is the one in document 01, T's pivots are renamed, 4 comes before 5, what a bucket's destination must hold, and a pivot is put into T.
 use mathlib.Core.Path.{_≡_, refl}
 use mathlib.Core.List.{List, [], _∷_, _++_}
 use Prim.Native.Nat.{ℕ, _*_}
+use Rattle.model.specs.declared.Answer.{Answer}
 use Rattle.model.specs.declared.Answer.the-variants.{Value, Refused}
-use Rattle.model.specs.declared.Refusal.the-variants.{EmptyPrefix, NoRoom}
-use Rattle.model.specs.keys.Key.{changePrefix, IsPrefix}
+use Rattle.model.specs.declared.Refusal.the-variants.{EmptyPrefix, OutOfRange, NoRoom, AlreadyPivot}
+use Rattle.model.specs.keys.Key.{Key, changePrefix, IsPrefix}
 use Rattle.model.specs.keys.Order.{key, lteKey, lte, lastPlace, LargestLte, LargestLt}
 use Rattle.model.specs.ranges.RangePrefix.{lcpright, lcp, PivotLcp}
 use Rattle.model.specs.ranges.UpperBound.{raisedAt, uncommonFrom, ShortestUncommonPrefix}
-use Rattle.model.specs.records.Record.{edge, lengthField, allZero, fieldReading, reading, keyBytes, element, edgeOf, recordOf, encode, encodeEdge}
+use Rattle.model.specs.records.Record.{edge, noEdge, lengthField, allZero, fieldReading, reading, keyBytes, element, edgeOf, recordOf, encode, encodeEdge}
 use Rattle.model.specs.records.Record.{recordSize, zeros, pieces, joined, records, elements, edges, encodeAll, encodeEdges}
-use Rattle.model.specs.tables.Tables.{all, risesFrom, IsStrictlySorted, edgesFit, WFEdges, Route, CutoffForLeft, CutoffForRight}
+use Rattle.model.specs.tables.Tables.{all, risesFrom, IsStrictlySorted, edgesFit, WFEdges, ContainsRange, isPivot, Route, CutoffForLeft, CutoffForRight}
 use Rattle.model.specs.cuts.Cuts.{SplitLeft, SplitRight, cutEdge, edgeWithin, SplitLeftEdges, SplitRightEdges}
+use Rattle.model.specs.cuts.Insertion.{InsertPivot, InsertPivotEdges}
 use Rattle.model.specs.translation.PrefixSet.{RevPrefixSet, ApplyPrefixSet, ComposePrefixSet}
 use Rattle.model.specs.translation.Renaming.{TranslateElement, translateRight, TranslatePivotPairInternal, TranslatePivots}
 use Rattle.model.specs.calls.Refusals.{outcome}
 use Rattle.model.specs.calls.TableCalls.{notPivotCount, notEdgeCount, pivotsRead, edgesRead, pivotCauses, tableCauses}
 use Rattle.model.specs.calls.TranslationCalls.{translateKeyAnswer}
+use Rattle.model.specs.calls.InsertionCalls.{insertAnswer}
 use Rattle.model.specs.calls.RenamingCalls.{pivotsAnswer}
 use Rattle.model.specs.buckets.Bucket.{Entry, entryBytes, entries, entryOf, encodeEntry, encodeBucket, TranslateBucket}
 use Rattle.model.specs.calls.BucketCalls.{notEntryCount, entriesRead, bucketCauses, neededBytes, translateBucketAnswer}
 use Rattle.model.specs.list.ShelfList.{header, dash, digit, decimal, hex, keyText, elementText, edgeText, slotLine, slotLines, tableText}
 use Rattle.model.specs.list.ShelfList.{listPivots, listEdges, notListSize, listCauses, shelfList}
-use Rattle.model.specs.Rows.{AllHold, rows, pivotsT, inputT, linesT}
+use Rattle.model.specs.Rows.{AllHold, rows, pivotsT, edgesT, inputT, linesT}
 
 pub cases : AllHold rows
 unfolding changePrefix IsPrefix lteKey lte lastPlace LargestLte LargestLt lcpright lcp PivotLcp raisedAt uncommonFrom ShortestUncommonPrefix Route CutoffForLeft CutoffForRight SplitLeft SplitRight cutEdge edgeWithin SplitLeftEdges SplitRightEdges RevPrefixSet ApplyPrefixSet ComposePrefixSet TranslateElement translateRight TranslatePivotPairInternal
@@ -53,3 +56,14 @@ threeEntries = encodeBucket (entry41 ∷ entry41 ∷ entry41 ∷ [])
 pub room-of-three : (translateBucketAnswer threeEntries (0x42 ∷ []) [] (zeros 209) ≡ Refused NoRoom) × (translateBucketAnswer threeEntries (0x42 ∷ []) [] (zeros 210) ≡ Value 0)
 unfolding outcome bucketCauses notEntryCount entriesRead neededBytes entryBytes entries entryOf pieces encodeBucket encodeEntry joined recordOf reading fieldReading lengthField allZero keyBytes all IsPrefix TranslateBucket
 room-of-three = (refl, refl)
+
+-- T with 41 31 put in, as FORMAT has it; its last pivot is refused with 11, and what is above it with 5
+abbrev pub insertsT : Key → List ℕ → List ℕ → Answer
+insertsT k dp de = insertAnswer (encodeAll pivotsT) (encodeEdges edgesT) k dp de
+
+pub insertion-into-T : (InsertPivot pivotsT 1 (0x41 ∷ 0x31 ∷ []) ≡ key (0x41 ∷ 0x30 ∷ []) ∷ key (0x41 ∷ 0x31 ∷ []) ∷ key (0x41 ∷ 0x35 ∷ []) ∷ key (0x42 ∷ []) ∷ [])
+    × (InsertPivotEdges edgesT pivotsT (0x41 ∷ 0x31 ∷ []) ≡ edge (0x43 ∷ 0x30 ∷ []) ∷ edge (0x43 ∷ []) ∷ noEdge ∷ [])
+    × (insertsT (0x41 ∷ 0x31 ∷ []) (zeros 264) (zeros 198) ≡ Value 4) × (insertsT (0x41 ∷ 0x31 ∷ []) (zeros 264) (zeros 197) ≡ Refused NoRoom)
+    × (insertsT (0x42 ∷ []) [] [] ≡ Refused AlreadyPivot) × (insertsT (0x42 ∷ 0x00 ∷ []) [] [] ≡ Refused OutOfRange)
+unfolding outcome tableCauses pivotCauses notPivotCount notEdgeCount pivotsRead edgesRead records pieces elements edges encodeAll encodeEdges encode encodeEdge recordOf joined reading fieldReading lengthField allZero element edgeOf keyBytes IsStrictlySorted risesFrom lte lteKey all WFEdges edgesFit PivotLcp lcp lcpright ContainsRange isPivot lastPlace LargestLte Route InsertPivot InsertPivotEdges edgeWithin cutEdge changePrefix
+insertion-into-T = (refl, refl, refl, refl, refl, refl)

@@ -5,7 +5,7 @@ use Rattle.model.specs.declared.Answer.{Answer}
 use Rattle.model.specs.declared.Answer.the-variants.{Value, Refused}
 use Rattle.model.specs.calls.Refusals.{number}
 
--- "The smallest number that applies is answered": of two answers the refusal with the smaller number; else the first one's value
+-- where causes go by their numbers the smaller number comes first: of two answers the refusal with that number; else the first one's value
 unfoldable pub earlier : Answer → Answer → Answer
 earlier (Value m) (Value n) = Value m
 earlier (Value m) (Refused s) = Refused s
