@@ -62,7 +62,7 @@ module _ (p : List ℕ) (k : Key) (n : ℕ) (wf : WFPivots (elements p) ≡ true
         count : length (insertedPivots p k) ≡ length p / 66 + 1
         count =
             let r = strictly-route (elements p) k wf (n - 1) slot in
-            rw (← r) (insert-length (elements p) k wf (n - 1) slot ∙ rw (length-elements p))
+            rw (← r) (insert-length (elements p) k (n - 1) (omega (arith, slot .slot)) ∙ rw (length-elements p))
 
         -- 5 and 11 don't apply
         past : {A : Type 0} (f : Refusal → A) (v x : A) → x ≡ outcome f ((tooManyPivots (insertedPivots p k) ⇒ TooManyPivots) ∷ []) v → x ≡ outcome f causes v

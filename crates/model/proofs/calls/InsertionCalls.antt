@@ -79,7 +79,7 @@ module _ (p e : List ℕ) (k : Key) (h : first (newPivotCauses p e k) ≡ none) 
   rightEdge = cutSlotEdge false (elements p) (edges e) k
 
   pub insert-count : length (insertedPivots p k) ≡ length p / recordSize + 1
-  insert-count = insert-length (elements p) k wf c insert-strictly ∙ rw (length-elements p)
+  insert-count = insert-length (elements p) k c (omega (arith, insert-strictly .slot)) ∙ rw (length-elements p)
 
   edges-list : insertedEdges p e k ≡ take c (edges e) ++ ((leftEdge ∷ rightEdge ∷ []) ++ drop (c + 1) (edges e))
   unfolding InsertPivotEdges

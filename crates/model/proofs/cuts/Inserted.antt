@@ -5,22 +5,22 @@ use mathlib.Core.List.{List}
 use mathlib.Core.Option.{none}
 use Prim.Native.Nat.{ℕ}
 use native.Mathlib.Omega.{arith}
-use borrow.Author.Tests.{ltb-false, not-false}
+use borrow.Author.Tests.{not-false}
 use lib.ListN.{length}
-use Rattle.model.specs.declared.Refusal.the-variants.{TooManyPivots, TooLong}
+use Rattle.model.specs.declared.Refusal.the-variants.{TooLong}
 use Rattle.model.specs.declared.Answer.the-variants as answers
 use Rattle.model.specs.declared.Decided.the-variants as decided
 use Rattle.model.specs.keys.Key.{Key, Bytes}
 use Rattle.model.specs.records.Record.{elements, edges, encodeAll, encodeEdges}
-use Rattle.model.specs.tables.Tables.{PivotTable, EdgeTable, maxPivots, all, shortEdge, WFPivots, WFEdges, BytesT, BoundedKey, Route}
+use Rattle.model.specs.tables.Tables.{PivotTable, EdgeTable, all, shortEdge, WFPivots, WFEdges, BytesT, BoundedKey, Route}
 use Rattle.model.specs.cuts.Sides.{inside}
 use Rattle.model.specs.calls.Refusals.{first}
 use Rattle.model.specs.calls.TableCalls.{tableCauses, edgeSlotCauses}
 use Rattle.model.specs.calls.CutCalls.{cutPivots, cutEdges}
-use Rattle.model.specs.calls.InsertionCalls.{insertedPivots, insertedEdges, newPivotCauses, tooManyPivots, insertCauses}
+use Rattle.model.specs.calls.InsertionCalls.{insertedPivots, insertedEdges, newPivotCauses, insertCauses}
 use Rattle.model.specs.cuts.TwoOrders.{Dests, End, wrote, refused, TranslatedAlike}
 use Rattle.model.specs.cuts.Inserted.{insert, CutAlike, Inserted, Kept, Inserts}
-use Rattle.model.proofs.calls.Refusals.{passed, followed, none-here, none-later, none-before, none-after}
+use Rattle.model.proofs.calls.Refusals.{passed, followed, none-here, none-before, none-after}
 use Rattle.model.proofs.calls.TableCalls.{table-wf, table-wrong, table-edges, table-bytes}
 use Rattle.model.proofs.calls.WrittenTables.{wf-table-causes, bytes-encodeAll}
 use Rattle.model.proofs.calls.Alike.{slot-first, alike, alike-outside}
@@ -31,7 +31,7 @@ use Rattle.model.proofs.tables.NewPivot.{strictly-inside}
 use Rattle.model.proofs.cuts.CutEdges.{edges-say}
 use Rattle.model.proofs.cuts.Ends.{ends-wrote, wrote-none}
 use Rattle.model.proofs.cuts.LongInsertion.{long-as-cuts}
-use Rattle.model.proofs.cuts.Insertion.{insert-length, insert-wf, insert-edges-wf, insert-bytes, insert-inside, insert-split, insert-split-edges, insert-bounded, insert-preserved}
+use Rattle.model.proofs.cuts.Insertion.{insert-length, Insertable, insert-wf, insert-edges-wf, insert-bytes, insert-inside, insert-split, insert-split-edges, insert-bounded, insert-preserved}
 
 -- ---- an accepted insertion
 
@@ -44,28 +44,28 @@ module _ (p e : List ℕ) (k : Key) (b : Bytes p) (g : Bytes k) (h : first (newP
   abbrev et : EdgeTable
   et = insertedEdges p e k
 
-  abbrev c : ℕ
-  c = Route (elements p) k
+  -- the table takes the key
+  can : Insertable (elements p) (edges e) k
+  can =
+      let t = insert-table p e k h in
+      record {
+        wf = table-wf _ _ p e t;
+        fits = table-edges _ _ p e t;
+        bytes = table-bytes _ _ p e t b;
+        keyIs = g;
+        size = insert-key p e k h;
+        strictly = insert-strictly p e k h;
+      }
 
-  -- the table
-  wf : WFPivots (elements p) ≡ true
-  wf = table-wf _ _ p e (insert-table p e k h)
-
-  bytes : BytesT (elements p)
-  bytes = table-bytes _ _ p e (insert-table p e k h) b
-
-  fits : WFEdges (edges e) (elements p) ≡ true
-  fits = table-edges _ _ p e (insert-table p e k h)
-
-  -- and the new one
+  -- the new table is one
   new-wf : WFPivots pt ≡ true
-  new-wf = insert-wf (elements p) k wf c (insert-strictly p e k h) (insert-key p e k h) bytes g (edges e) fits
+  new-wf = insert-wf can
 
   new-fits : WFEdges et pt ≡ true
-  new-fits = insert-edges-wf (elements p) k wf c (insert-strictly p e k h) (insert-key p e k h) bytes g (edges e) fits
+  new-fits = insert-edges-wf can
 
   new-bytes : BytesT pt
-  new-bytes = insert-bytes (elements p) k wf c (insert-strictly p e k h) (insert-key p e k h) bytes g (edges e) fits
+  new-bytes = insert-bytes can
 
   pivots-back : elements (encodeAll pt) ≡ pt
   pivots-back = elements-encodeAll pt (wf-all-short pt new-wf)
@@ -82,8 +82,7 @@ module _ (p e : List ℕ) (k : Key) (b : Bytes p) (g : Bytes k) (h : first (newP
 
   -- a key is bounded by both or by neither
   same-keys : (j : Key) → BoundedKey (elements (encodeAll pt)) j ≡ BoundedKey (elements p) j
-  same-keys j =
-      rw pivots-back (insert-bounded (elements p) k wf c (insert-strictly p e k h) (insert-key p e k h) bytes g (edges e) fits j)
+  same-keys j = rw pivots-back (insert-bounded can j)
 
   -- and is translated alike
   new-keys : (j : Key) → Bytes j → TranslatedAlike p e (encodeAll pt) (encodeEdges et) j
@@ -92,25 +91,21 @@ module _ (p e : List ℕ) (k : Key) (b : Bytes p) (g : Bytes k) (h : first (newP
       go : (t : Bool) → BoundedKey (elements p) j ≡ t → TranslatedAlike p e (encodeAll pt) (encodeEdges et) j
       go true v =
           alike p e (encodeAll pt) (encodeEdges et) j old-table new-table v (same-keys j ∙ v)
-          (rw (pivots-back, edges-back)
-          (insert-preserved (elements p) k wf c (insert-strictly p e k h) (insert-key p e k h) bytes g (edges e) fits j d v))
+          (rw (pivots-back, edges-back) (insert-preserved can j d v))
       go false v = alike-outside p e (encodeAll pt) (encodeEdges et) j old-table new-table v (same-keys j ∙ v)
 
   -- the cuts at the key are of the same pivots and edges
   same-pivots : (left : Bool) → cutPivots left (encodeAll pt) k ≡ cutPivots left p k
-  same-pivots left =
-      rw pivots-back (insert-split (elements p) k wf c (insert-strictly p e k h) (insert-key p e k h) bytes g (edges e) fits left)
+  same-pivots left = rw pivots-back (insert-split can left)
 
   same-edges : (left : Bool) → cutEdges left (encodeAll pt) (encodeEdges et) k ≡ cutEdges left p e k
-  same-edges left =
-      rw (pivots-back, edges-back)
-      (insert-split-edges (elements p) k wf c (insert-strictly p e k h) (insert-key p e k h) bytes g (edges e) fits left)
+  same-edges left = rw (pivots-back, edges-back) (insert-split-edges can left)
 
   same-slot : (left : Bool) → first (edgeSlotCauses (encodeAll pt) (encodeEdges et) k (inside left (elements (encodeAll pt)) k))
       ≡ first (edgeSlotCauses p e k (inside left (elements p) k))
   same-slot left =
-      let i = insert-inside (elements p) k wf c (insert-strictly p e k h) (insert-key p e k h) bytes g (edges e) fits left in
-      let j = strictly-inside (elements p) k wf c (insert-strictly p e k h) left in
+      let i = insert-inside can left in
+      let j = strictly-inside (elements p) k (can .wf) (Route (elements p) k) (insert-strictly p e k h) left in
       slot-first (encodeAll pt) (encodeEdges et) k (inside left (elements (encodeAll pt)) k) new-table (rw pivots-back i) ∙ sym (slot-first p e k (inside left (elements p) k) old-table j)
 
   -- so they are the same
@@ -127,7 +122,7 @@ module _ (p e : List ℕ) (k : Key) (b : Bytes p) (g : Bytes k) (h : first (newP
       record {
         table = sym (passed decided.Refused decided.Yes decided.Yes _ new-table refl);
         pivots = pivots-back;
-        count = insert-length (elements p) k wf c (insert-strictly p e k h);
+        count = insert-length (elements p) k (Route (elements p) k) (omega (arith, insert-strictly p e k h .slot));
         keys = new-keys;
         cuts = new-cuts;
       }
