@@ -14,4 +14,5 @@ pub mod AcceptedCuts
 pub mod OneOrder
 pub mod TwoOrders
 pub mod LongInsertion
+pub mod TakenInsertion
 pub mod Inserted

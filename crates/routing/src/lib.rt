@@ -79,8 +79,8 @@ fn new_slot_of(pivots: &[u8], k: &[u8]) -> Routed
         return Routed::Refused(Refusal::OutOfRange);
     }
     let slot = n - 1;
-    let below = keys::passes(records::record_at(pivots, slot), k, true);
     let count = pivots.len() / RECORD_SIZE;
+    let below = keys::passes(records::record_at(pivots, slot), k, true);
     if !below {
         return Routed::Refused(Refusal::AlreadyPivot);
     }

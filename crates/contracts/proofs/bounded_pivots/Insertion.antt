@@ -18,13 +18,13 @@ use Rattle.model.specs.cuts.Insertion.{InsertPivot}
 use Rattle.model.specs.calls.Refusals.{first}
 use Rattle.model.specs.calls.TableCalls.{pivotCauses, tableCauses, edgeSlotCauses}
 use Rattle.model.specs.calls.InsertionCalls.{insertCauses, insertAnswer}
-use Rattle.model.proofs.calls.Refusals.{none-here, none-before, none-after}
+use Rattle.model.proofs.calls.Refusals.{none-here, none-before, none-after, not-fails}
 use Rattle.model.proofs.calls.TableCalls.{table-wf}
 use Rattle.model.proofs.tables.Routing.{wf-sorted, wf-count}
 use Rattle.model.proofs.tables.Insertable.{insertable-gap}
 use Rattle.model.proofs.tables.NewPivot.{Strictly, new-strictly, strictly-route, strictly-insertable}
 use Rattle.contracts.specs.Refuses.{RefusesAt, Refuses}
-use Rattle.contracts.proofs.Refusing.{refuses-unless, more-refused, call-refuses, table-pivots-refused}
+use Rattle.contracts.proofs.Refusing.{refuses-at, refuses-unless, more-refused, call-refuses, table-pivots-refused}
 
 -- a pivot from the place on stands one place further on
 further : (k : Key) (pt : PivotTable) (idx i : ℕ) → idx ≤ i → pivotAt (take idx pt ++ (key k ∷ drop idx pt)) (suc i) ≡ pivotAt pt i
@@ -76,6 +76,12 @@ module _ (p e : List ℕ) (k : Key) (dp de : List ℕ) where
       → RefusesAt answers.Refused (insertCauses p e k dp de) 5 AlreadyPivot (insertAnswer p e k dp de)
   unfolding tableCauses pivotCauses
   bounded-pivots-289 h = refuses-unless _ _ (insertCauses p e k dp de) 5 _ _ _ refl (not-insertable p e k h)
+
+  -- requires PivotInsertable(pt, idx, key)
+  pub bounded-pivots-289c : ContainsRange (elements p) (key k) (key k) ≡ false
+      → RefusesAt answers.Refused (insertCauses p e k dp de) 4 OutOfRange (insertAnswer p e k dp de)
+  unfolding tableCauses pivotCauses
+  bounded-pivots-289c h = refuses-at _ _ (insertCauses p e k dp de) 4 _ _ _ refl (not-fails _ h)
 
 -- requires PivotInsertable(pt, idx, key)
 pub bounded-pivots-289b : (pt : PivotTable) (idx : ℕ) (k : Key) → WFPivots pt ≡ true → 0 < idx → idx < length pt → PivotInsertable pt idx k ≡ true

@@ -3,8 +3,9 @@ use mathlib.Core.Path.{_≡_, refl, sym, ap, _∙_}
 use mathlib.Core.Bool.{Bool, true, false, cond, _||_, true≢false}
 use mathlib.Core.List.{List}
 use mathlib.Core.Option.{none, some}
-use Prim.Native.Nat.{ℕ, _*_, _-_}
+use Prim.Native.Nat.{ℕ, _*_, _-_, _≤_}
 use native.Mathlib.Omega.{arith}
+use borrow.Author.Tests.{le-ltb}
 use lib.ListN.{length}
 use Rattle.model.specs.declared.Refusal.{Refusal}
 use Rattle.model.specs.declared.Refusal.the-variants.{TooLong, NoRoom}
@@ -40,9 +41,12 @@ module _ (cs : List Cause) (n : ℕ) (w x dp de : List ℕ) where
         take-over x de,
       )
 
--- where it has written no cause applies
+-- where it is accepted no cause applies
+pub accepted-none : (cs : List Cause) (n : ℕ) (y z : List ℕ) → accepted (endOf (answer cs n) y z) ≡ true → first cs ≡ none
+accepted-none cs n y z a = unrefused answers.Refused (answers.Value n) cs (λ r q. true≢false (sym a ∙ rw q))
+
 pub wrote-none : (cs : List Cause) (n : ℕ) (y z : List ℕ) (m : ℕ) (p e : List ℕ) → endOf (answer cs n) y z ≡ wrote m p e → first cs ≡ none
-wrote-none cs n y z m p e a = unrefused answers.Refused (answers.Value n) cs (λ r q. true≢false (sym (ap accepted a) ∙ rw q))
+wrote-none cs n y z m p e a = accepted-none cs n y z (ap accepted a)
 
 -- there is no room for the records of pt and et
 abbrev pub full : PivotTable → EdgeTable → Dests → Bool
@@ -71,3 +75,10 @@ write-ends pt et d w v cs h = go (all shortEdge et) (full pt et d) refl refl
         let m = length-encodeEdges et s in
         ends-wrote _ _ _ _ _ _ (h ∙ unfold outcome in rw (s, f)) (sym (length-encodeAll pt (wf-all-short pt w))) (omega arith)
     go false t s f = ends-refused _ _ _ _ _ _ TooLong (h ∙ unfold outcome in rw s)
+
+-- short edges and room leave no cause
+pub room-none : (pt : PivotTable) (et : EdgeTable) (d : Dests) → all shortEdge et ≡ true → length pt * recordSize ≤ length (d .forPivots)
+    → length et * recordSize ≤ length (d .forEdges) → first (writeCauses pt et (d .forPivots) (d .forEdges)) ≡ none
+unfolding outcome
+room-none pt et d s f g =
+    rw (s, le-ltb (length (d .forPivots)) (length pt * recordSize) f, le-ltb (length (d .forEdges)) (length et * recordSize) g)

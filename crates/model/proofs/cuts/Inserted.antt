@@ -1,9 +1,9 @@
 -- What is asked of insertion holds: an accepted one leaves a table that translates and is cut as the old one, and it is refused for length where a cut at the key is.
-use mathlib.Core.Path.{_≡_, refl, sym, subst, _∙_}
+use mathlib.Core.Path.{_≡_, refl, sym, ap, subst, _∙_}
 use mathlib.Core.Bool.{Bool, true, false}
 use mathlib.Core.List.{List}
-use mathlib.Core.Option.{none}
-use Prim.Native.Nat.{ℕ}
+use mathlib.Core.Option.{none, some}
+use Prim.Native.Nat.{ℕ, _+_, _*_, _≤_}
 use native.Mathlib.Omega.{arith}
 use borrow.Author.Tests.{not-false}
 use lib.ListN.{length}
@@ -11,16 +11,16 @@ use Rattle.model.specs.declared.Refusal.the-variants.{TooLong}
 use Rattle.model.specs.declared.Answer.the-variants as answers
 use Rattle.model.specs.declared.Decided.the-variants as decided
 use Rattle.model.specs.keys.Key.{Key, Bytes}
-use Rattle.model.specs.records.Record.{elements, edges, encodeAll, encodeEdges}
+use Rattle.model.specs.records.Record.{recordSize, elements, edges, encodeAll, encodeEdges}
 use Rattle.model.specs.tables.Tables.{PivotTable, EdgeTable, all, shortEdge, WFPivots, WFEdges, BytesT, BoundedKey, Route}
 use Rattle.model.specs.cuts.Sides.{inside}
 use Rattle.model.specs.calls.Refusals.{first}
 use Rattle.model.specs.calls.TableCalls.{tableCauses, edgeSlotCauses}
 use Rattle.model.specs.calls.CutCalls.{cutPivots, cutEdges}
 use Rattle.model.specs.calls.InsertionCalls.{insertedPivots, insertedEdges, newPivotCauses, insertCauses}
-use Rattle.model.specs.cuts.TwoOrders.{Dests, End, wrote, refused, TranslatedAlike}
-use Rattle.model.specs.cuts.Inserted.{insert, CutAlike, Inserted, Kept, Inserts}
-use Rattle.model.proofs.calls.Refusals.{passed, followed, none-here, none-before, none-after}
+use Rattle.model.specs.cuts.TwoOrders.{Dests, End, wrote, refused, accepted, TranslatedAlike}
+use Rattle.model.specs.cuts.Inserted.{insert, CutAlike, Inserted, Kept, Taken, Inserts}
+use Rattle.model.proofs.calls.Refusals.{passed, after, followed, none-here, none-before, none-after}
 use Rattle.model.proofs.calls.TableCalls.{table-wf, table-wrong, table-edges, table-bytes}
 use Rattle.model.proofs.calls.WrittenTables.{wf-table-causes, bytes-encodeAll}
 use Rattle.model.proofs.calls.Alike.{slot-first, alike, alike-outside}
@@ -29,8 +29,9 @@ use Rattle.model.proofs.records.Records.{length-encodeAll, length-encod
 use Rattle.model.proofs.tables.Routing.{wf-all-short}
 use Rattle.model.proofs.tables.NewPivot.{strictly-inside}
 use Rattle.model.proofs.cuts.CutEdges.{edges-say}
-use Rattle.model.proofs.cuts.Ends.{ends-wrote, wrote-none}
+use Rattle.model.proofs.cuts.Ends.{ends-wrote, wrote-none, room-none}
 use Rattle.model.proofs.cuts.LongInsertion.{long-as-cuts}
+use Rattle.model.proofs.cuts.TakenInsertion.{takes, takes-short}
 use Rattle.model.proofs.cuts.Insertion.{insert-length, Insertable, insert-wf, insert-edges-wf, insert-bytes, insert-inside, insert-split, insert-split-edges, insert-bounded, insert-preserved}
 
 -- ---- an accepted insertion
@@ -134,6 +135,15 @@ module _ (p e : List ℕ) (k : Key) (b : Bytes p) (g : Bytes k) (h : first (newP
       let l = length-encodeEdges et s in
       ends-wrote _ _ _ _ _ _ f (sym (length-encodeAll pt (wf-all-short pt new-wf))) (omega arith)
 
+  -- where they have room
+  pub room-accepted : (d : Dests) → (length (elements p) + 1) * recordSize ≤ length (d .forPivots) → length (elements p) * recordSize ≤ length (d .forEdges)
+      → accepted (insert k d p e) ≡ true
+  room-accepted d r t =
+      let n = edges-say et pt new-fits .count in
+      let l : length pt ≡ length (elements p) + 1 = leaves-inserted .count in
+      let w = room-none pt et d s (omega arith) (omega arith) in
+      ap accepted (ends-inserted d (sym (after some none _ (newPivotCauses p e k) _ h (sym w))))
+
 -- by its call: it ended with n pivots, in the records p′ and e′
 module _ (p e : List ℕ) (k : Key) (d : Dests) (n : ℕ) (p′ e′ : List ℕ) (a : insert k d p e ≡ wrote n p′ e′) where
   no-cause : first (insertCauses p e k (d .forPivots) (d .forEdges)) ≡ none
@@ -168,8 +178,11 @@ module _ (p e : List ℕ) (k : Key) (d : Dests) (n : ℕ) (p′ e′ : List ℕ)
 -- ---- the claim
 
 pub inserts : Inserts
-inserts p e k d b g = (go (insert k d p e) refl, long-as-cuts p e k d)
+inserts p e k d b g = (go (insert k d p e) refl, long-as-cuts p e k d, taken)
   where
+    taken : Taken p e k d
+    taken l r x y n m = room-accepted p e k b g (takes p e k l r x y n m) (takes-short p e k l r x y n m) d
+
     go : (x : End) → insert k d p e ≡ x → Kept p e k x
     go (refused r) a = tt
     go (wrote n p′ e′) a = insert-leaves p e k d n p′ e′ a b g

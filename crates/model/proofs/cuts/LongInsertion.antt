@@ -1,22 +1,22 @@
--- Insertion is refused with 8 where a cut at the key is, unless 11 or 12 comes first, and nowhere else.
+-- Insertion is refused with 8 where a cut at the key is, unless 12 comes first, and nowhere else.
 use mathlib.Core.Path.{_≡_, refl, sym, _∙_}
 use mathlib.Core.Logic.{_⊎_, inl, inr, ⊎-elim}
-use mathlib.Core.Bool.{Bool, true, false, _&&_, and-false}
-use mathlib.Core.List.{List, [], _∷_, _++_}
+use mathlib.Core.Bool.{Bool, true, false, _&&_, and-false, true≢false}
+use mathlib.Core.List.{List, [], _++_}
 use mathlib.Core.Option.{none, some}
-use Prim.Native.Nat.{ℕ, _*_}
+use Prim.Native.Nat.{ℕ, _+_, _*_}
 use native.Mathlib.Omega.{arith}
 use lib.ListN.{length}
 use Rattle.model.specs.declared.Refusal.{Refusal}
-use Rattle.model.specs.declared.Refusal.the-variants.{AlreadyPivot, TooManyPivots, TooLong}
+use Rattle.model.specs.declared.Refusal.the-variants.{TooManyPivots, TooLong}
 use Rattle.model.specs.declared.Answer.the-variants as answers
 use Rattle.model.specs.keys.Key.{Key, tooLong}
 use Rattle.model.specs.keys.Order.{key, lte, lt}
 use Rattle.model.specs.records.Record.{recordSize, elements, edges}
-use Rattle.model.specs.tables.Tables.{PivotTable, EdgeTable, pivotAt, lastPivot, all, shortEdge, ContainsRange, BoundedKey, ValidLeftCutOffKey, isPivot}
+use Rattle.model.specs.tables.Tables.{PivotTable, EdgeTable, pivotAt, lastPivot, all, shortEdge, WFPivots, WFEdges, ContainsRange, BoundedKey, ValidLeftCutOffKey, CutoffForLeft, CutoffForRight, isPivot}
 use Rattle.model.specs.cuts.Sides.{inside}
 use Rattle.model.specs.inner.CutSlot.{cutSlotEdge}
-use Rattle.model.specs.calls.Refusals.{Cause, _⇒_, outcome, first}
+use Rattle.model.specs.calls.Refusals.{Cause, outcome, first}
 use Rattle.model.specs.calls.TableCalls.{pivotCauses, tableCauses, edgeSlotCauses}
 use Rattle.model.specs.calls.CutCalls.{cutPivots, cutEdges, roomCauses, writeCauses}
 use Rattle.model.specs.calls.InsertionCalls.{insertedPivots, insertedEdges, newPivotCauses, tooManyPivots, insertAnswer}
@@ -24,7 +24,11 @@ use Rattle.model.specs.cuts.TwoOrders.{Dests}
 use Rattle.model.specs.cuts.Inserted.{longInsert, longCut, LongAsCuts}
 use Rattle.model.proofs.keys.Key.{both}
 use Rattle.model.proofs.keys.Order.{lt-lte}
-use Rattle.model.proofs.calls.Refusals.{refused-by, refused-first, refused, after, here, later, lacking}
+use Rattle.model.proofs.calls.Refusals.{refused-by, refused-first, refused, after, lacking}
+use Rattle.model.proofs.Lists.{all-parts}
+use Rattle.model.proofs.tables.NewPivot.{pivot-left, pivot-right}
+use Rattle.model.proofs.calls.TableCalls.{table-wf, table-edges, table-edges-short}
+use Rattle.model.proofs.cuts.SplitEdges.{split-left-pivot, split-right-pivot}
 use Rattle.model.proofs.calls.CutCalls.{cut-table, cut-inside, cut-short}
 use Rattle.model.proofs.calls.InsertionCalls.{insert-found, insert-short}
 
@@ -48,7 +52,7 @@ module _ (pt : PivotTable) (et : EdgeTable) (dp de : List ℕ) where
   long-says h = rw h
 
 -- a key where a cut is accepted is of the range
-inside-contained : (left : Bool) (pt : PivotTable) (k : Key) → inside left pt k ≡ true → ContainsRange pt (key k) (key k) ≡ true
+pub inside-contained : (left : Bool) (pt : PivotTable) (k : Key) → inside left pt k ≡ true → ContainsRange pt (key k) (key k) ≡ true
 unfolding ContainsRange BoundedKey ValidLeftCutOffKey
 inside-contained true pt k h =
     let i = both (lt (pivotAt pt 0) (key k)) (lte (key k) (lastPivot pt)) h in
@@ -77,6 +81,23 @@ module _ (p e : List ℕ) (k : Key) where
         let w = long-says (cutPivots left p k) (cutEdges left p e k) (d .forPivots) (d .forEdges) f in
         sym (after answers.Refused _ _ cs _ h (refused-by answers.Refused _ _ _ TooLong w refl))
 
+    -- at a pivot it has the old edges, and they are short
+    pivot-short : first (edgeSlotCauses p e k (inside left (elements p) k)) ≡ none → isPivot (elements p) k ≡ true → all shortEdge (cutEdges left p e k) ≡ true
+    pivot-short h i = go left (cut-inside left p e k h)
+      where
+        wf : WFPivots (elements p) ≡ true
+        wf = table-wf false (tooLong k) p e (cut-table left p e k h)
+
+        fits : WFEdges (edges e) (elements p) ≡ true
+        fits = table-edges false (tooLong k) p e (cut-table left p e k h)
+
+        short : all shortEdge (edges e) ≡ true
+        short = table-edges-short false (tooLong k) p e (cut-table left p e k h)
+
+        go : (left : Bool) → inside left (elements p) k ≡ true → all shortEdge (cutEdges left p e k) ≡ true
+        go true v = rw (split-left-pivot (elements p) (edges e) k wf fits v (pivot-left (elements p) k wf i v)) (all-parts shortEdge (CutoffForLeft (elements p) k + 1) (edges e) short .0)
+        go false v = rw (split-right-pivot (elements p) (edges e) k wf fits v (pivot-right (elements p) k wf i v)) (all-parts shortEdge (CutoffForRight (elements p) k) (edges e) short .1)
+
   -- ---- an insertion
 
   module _ (d : Dests) where
@@ -96,9 +117,8 @@ module _ (p e : List ℕ) (k : Key) where
         let w = long-says (insertedPivots p k) (insertedEdges p e k) (d .forPivots) (d .forEdges) f in
         sym (after answers.Refused _ _ (newPivotCauses p e k) _ h (refused-by answers.Refused _ _ _ TooLong w refl))
 
-    -- where a cut has none of the causes 1 to 5 the key has none but 11 and 12
-    new-unless : (left : Bool) → first (edgeSlotCauses p e k (inside left (elements p) k)) ≡ none
-        → (insertAnswer p e k (d .forPivots) (d .forEdges) ≡ answers.Refused AlreadyPivot → ⊥)
+    -- where a cut is refused with 8 the key has none of its causes but 12
+    new-unless : (left : Bool) → first (edgeSlotCauses p e k (inside left (elements p) k)) ≡ none → all shortEdge (cutEdges left p e k) ≡ false
         → (insertAnswer p e k (d .forPivots) (d .forEdges) ≡ answers.Refused TooManyPivots → ⊥) → first (newPivotCauses p e k) ≡ none
     unfolding outcome
     new-unless left h f g = go (isPivot (elements p) k) (tooManyPivots (insertedPivots p k)) refl refl
@@ -113,7 +133,7 @@ module _ (p e : List ℕ) (k : Key) where
         answered r w = sym (refused-first answers.Refused _ _ (newPivotCauses p e k) written r w refl)
 
         go : (t u : Bool) → isPivot (elements p) k ≡ t → tooManyPivots (insertedPivots p k) ≡ u → first (newPivotCauses p e k) ≡ none
-        go true u i j = absurd (f (answered AlreadyPivot (sym (after some none _ (tableCauses false (tooLong k) p e) _ table (rw (contained, i))))))
+        go true u i j = absurd (true≢false (sym (pivot-short left d h i) ∙ f))
         go false true i j = absurd (g (answered TooManyPivots (sym (after some none _ (tableCauses false (tooLong k) p e) _ table (rw (contained, i, j))))))
         go false false i j = sym (after some none _ (tableCauses false (tooLong k) p e) _ table (rw (contained, i, j)))
 
@@ -140,9 +160,8 @@ module _ (p e : List ℕ) (k : Key) where
           (long-edge _ _ (sym (insert-short p e k (w .0)) ∙ w .1))
 
       inserted : (left : Bool) (c : Dests) → longCut left p e k c
-          → (insertAnswer p e k (d .forPivots) (d .forEdges) ≡ answers.Refused AlreadyPivot → ⊥)
           → (insertAnswer p e k (d .forPivots) (d .forEdges) ≡ answers.Refused TooManyPivots → ⊥) → longInsert p e k d
-      inserted left c h f g =
+      inserted left c h g =
           let w = cut-8 left c h in
-          let new = new-unless d left (w .0) f g in
+          let new = new-unless d left (w .0) (w .1) g in
           insert-long d new (insert-short p e k new ∙ long-half left (sym (cut-short left p e k (w .0)) ∙ w .1))

@@ -1,6 +1,6 @@
 -- Keys that are pivots, and keys that can become one: such a key lies strictly inside a slot, which is its route and the slot of both its cuts.
 use mathlib.Core.Path.{_≡_, refl, sym, _∙_}
-use mathlib.Core.Logic.{⊎-elim}
+use mathlib.Core.Logic.{_⊎_, inl, inr, ⊎-elim}
 use mathlib.Core.Bool.{Bool, true, false, or-true, and-false, true≢false}
 use mathlib.Core.List.{[], _∷_}
 use Prim.Native.Nat.{ℕ, zero, suc, _+_, _-_, _≤_, _<_}
@@ -9,14 +9,14 @@ use borrow.Author.Tests.{not-false}
 use lib.ListN.{length}
 use Rattle.model.specs.keys.Key.{Key}
 use Rattle.model.specs.keys.Order.{Element, key, max, lte, lt, same, passes, lastPlace}
-use Rattle.model.specs.tables.Tables.{PivotTable, NumBuckets, pivotAt, lastPivot, WFPivots, ContainsRange, BoundedKey, Route, PivotInsertable, isPivot}
+use Rattle.model.specs.tables.Tables.{PivotTable, NumBuckets, pivotAt, lastPivot, WFPivots, ContainsRange, BoundedKey, ValidLeftCutOffKey, Route, CutoffForLeft, CutoffForRight, PivotInsertable, isPivot}
 use Rattle.model.specs.cuts.Sides.{inside, cutoff}
 use Rattle.model.proofs.Lists.{le-or-lt}
-use Rattle.model.proofs.keys.Order.{lt-false, false-lt, lt-lte, lte-trans, lt-trans-lte, lte-trans-lt}
+use Rattle.model.proofs.keys.Order.{lt-false, false-lt, lt-lte, lte-antisym, lte-trans, lt-trans-lte, lte-trans-lt}
 use Rattle.model.proofs.keys.Key.{both}
 use Rattle.model.proofs.tables.Places.{sorted-lte, place-most, place-passes, place-after}
 use Rattle.model.proofs.tables.Insertable.{gap-insertable}
-use Rattle.model.proofs.tables.Routing.{wf-sorted, wf-count, route-inside, route-from, route-below, slot-bounded, slot-is-route, cutoff-right-is-route, cutoff-left-valid, cutoff-left-is}
+use Rattle.model.proofs.tables.Routing.{wf-sorted, wf-count, route-inside, route-from, route-upper, route-below, slot-bounded, slot-is-route, cutoff-right-is-route, cutoff-left-lower, cutoff-left-reaches, cutoff-left-valid, cutoff-left-is}
 
 -- ---- which keys are pivots
 
@@ -135,6 +135,42 @@ module _ (pt : PivotTable) (k : Key) (w : WFPivots pt ≡ true) where
         after j h l =
             above-differs (pivotAt pt j) (key k)
             (lt-trans-lte (key k) (pivotAt pt (i + 1)) (pivotAt pt j) (g .upto) (sorted-lte pt (i + 1) j (wf-sorted pt w) (omega arith) h))
+
+-- ---- a key that is a pivot
+
+-- its place
+find-pivot : (k : Key) (pt : PivotTable) {C : Type 0} → isPivot pt k ≡ true → ((i : ℕ) → i < length pt → same (pivotAt pt i) (key k) ≡ true → C) → C
+unfolding isPivot
+find-pivot k [] h f = absurd (true≢false (sym h))
+find-pivot k (p ∷ pt) {C} h f = go (same p (key k)) refl (λ g. find-pivot k pt g (λ i l. f (suc i) (omega arith)))
+  where
+    go : (t : Bool) → same p (key k) ≡ t → (isPivot pt k ≡ true → C) → C
+    go true e g = f 0 (omega arith) e
+    go false e g = g (rw e at h)
+
+module _ (pt : PivotTable) (k : Key) (w : WFPivots pt ≡ true) (h : isPivot pt k ≡ true) where
+  -- it stands behind the slot of the left cut
+  pub pivot-left : ValidLeftCutOffKey pt k ≡ true → key k ≡ pivotAt pt (CutoffForLeft pt k + 1)
+  pivot-left v = find-pivot k pt h (λ i l e. at i l (both _ _ e) (le-or-lt i (CutoffForLeft pt k)))
+    where
+      at : (i : ℕ) → i < length pt → (lte (pivotAt pt i) (key k) ≡ true) × (lte (key k) (pivotAt pt i) ≡ true) → (i ≤ CutoffForLeft pt k) ⊎ (CutoffForLeft pt k < i)
+          → key k ≡ pivotAt pt (CutoffForLeft pt k + 1)
+      at i l e (inl m) = absurd (true≢false (sym (e .1) ∙ lt-false (pivotAt pt i) (key k) (cutoff-left-lower pt k w v i m)))
+      at i l e (inr m) =
+          let s = sorted-lte pt (CutoffForLeft pt k + 1) i (wf-sorted pt w) (omega arith) l in
+          lte-antisym (key k) (pivotAt pt (CutoffForLeft pt k + 1)) (cutoff-left-reaches pt k w v)
+          (lte-trans (pivotAt pt (CutoffForLeft pt k + 1)) (pivotAt pt i) (key k) s (e .0))
+
+  -- and begins that of the right cut
+  pub pivot-right : BoundedKey pt k ≡ true → key k ≡ pivotAt pt (CutoffForRight pt k)
+  pivot-right v = rw (cutoff-right-is-route pt k) (find-pivot k pt h (λ i l e. at i l (both _ _ e) (le-or-lt i (Route pt k))))
+    where
+      at : (i : ℕ) → i < length pt → (lte (pivotAt pt i) (key k) ≡ true) × (lte (key k) (pivotAt pt i) ≡ true) → (i ≤ Route pt k) ⊎ (Route pt k < i)
+          → key k ≡ pivotAt pt (Route pt k)
+      at i l e (inl m) =
+          let s = sorted-lte pt i (Route pt k) (wf-sorted pt w) m (omega (arith, route-inside pt k w v)) in
+          lte-antisym (key k) (pivotAt pt (Route pt k)) (lte-trans (key k) (pivotAt pt i) (pivotAt pt (Route pt k)) (e .1) s) (route-from pt k w v)
+      at i l e (inr m) = absurd (true≢false (sym (e .0) ∙ lt-false (key k) (pivotAt pt i) (route-upper pt k w v i m l)))
 
 -- ---- the same by the number of the pivots that are not above the key
 
