@@ -90,9 +90,8 @@ impl Group {
     /// Of each of these sorts of cases at least one in twenty, so that no group goes by without one.
     pub fn sorts(&mut self, sorts: &[usize]) {
         let all: usize = sorts.iter().sum();
-        self.check(sorts.iter().all(|sort| 20 * sort >= all), || {
-            format!("too few cases of one sort: {sorts:?}")
-        });
+        let enough = all > 0 && sorts.iter().all(|sort| 20 * sort >= all);
+        self.check(enough, || format!("too few cases of one sort: {sorts:?}"));
     }
 
     pub fn fail(&mut self, text: &str) {

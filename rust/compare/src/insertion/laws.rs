@@ -153,10 +153,12 @@ pub fn random(group: &mut Group, count: usize) {
 }
 
 /// The table with one key after the other put in, as far as they are taken.
-fn filled(group: &mut Group, random: &mut Xorshift, mut table: Table) -> Table {
+fn filled(group: &mut Group, tally: &mut Tally, random: &mut Xorshift, mut table: Table) -> Table {
     for _ in 0..TRIES {
         let key = key_near(random, &table);
-        if let Ok(new) = insertion(group, &table, &key) {
+        let inserted = insertion(group, &table, &key);
+        tally.count(&inserted);
+        if let Ok(new) = inserted {
             table.keys.push(key);
             table.keys.sort();
             (table.pivots, table.edges) = (new.pivots, new.edges);
@@ -174,7 +176,7 @@ pub fn until_full(group: &mut Group, count: usize) {
         let table = good_table(&mut random);
         let keys: Vec<_> = (0..40).map(|_| key_near(&mut random, &table)).collect();
         let old = Records::of(&table);
-        let table = filled(group, &mut random, table);
+        let table = filled(group, &mut tally, &mut random, table);
         full += usize::from(table.slots() + 1 == MOST_PIVOTS);
         as_before(group, &mut tally, [&old, &Records::of(&table)], &keys);
     }
