@@ -176,10 +176,10 @@ uint32_t jd_split_right(const uint8_t *pivots, size_t pivots_len,
                         uint8_t *dest_pivots, size_t dest_pivots_len,
                         uint8_t *dest_edges, size_t dest_edges_len, uint64_t *written);
 
-/* Puts the key in as a new pivot: writes the pivots with it in order, and the edges, of which the
- * two halves of its slot have those that cuts at the key give them. The key is between the first
- * pivot and the last. Refuses JD_SHAPE, JD_MALFORMED, JD_UNSORTED, JD_EMPTY_PREFIX,
- * JD_OUT_OF_RANGE, JD_ALREADY_PIVOT (any of them), JD_TOO_MANY_PIVOTS, JD_TOO_LONG, JD_NO_ROOM. */
+/* Puts the key, between the first pivot and the last, in as a pivot: writes the pivots in order,
+ * and the edges, of which the halves of its slot have those that cuts at the key give them. Each
+ * destination needs 66 bytes more than the slice that it takes the place of. Refuses as
+ * jd_split_left, after JD_OUT_OF_RANGE also JD_ALREADY_PIVOT (any of them), JD_TOO_MANY_PIVOTS. */
 uint32_t jd_insert_pivot(const uint8_t *pivots, size_t pivots_len,
                          const uint8_t *edges, size_t edges_len,
                          const uint8_t *key, size_t key_len,
