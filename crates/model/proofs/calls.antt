@@ -13,3 +13,4 @@ pub mod BucketCalls
 pub mod Alike
 pub mod SlotCalls
 pub mod PivotKeys
+pub mod InTurn

@@ -1,8 +1,9 @@
 -- What a call answers: its result, or the first cause that applies in the call's ordered list.
-use mathlib.Core.Bool.{Bool, true, false, cond}
+use mathlib.Core.Bool.{Bool, true, false, cond, _&&_}
 use mathlib.Core.List.{List, [], _∷_, _++_}
 use mathlib.Core.Option.{Option, none, some}
 use Prim.Native.Nat.{ℕ}
+use lib.Dec.{leb}
 use lib.IntN.{ℤ}
 use lib.ListN.{length, drop}
 use Rattle.model.specs.declared.Refusal.{Refusal}
@@ -32,6 +33,21 @@ number NoRoom = 10
 number AlreadyPivot = 11
 number TooManyPivots = 12
 
+-- the order of all causes: "directly after 5" comes 11, and "directly after 11" comes 12
+abbrev pub turn : Refusal → ℕ
+turn Shape = 1
+turn Malformed = 2
+turn Unsorted = 3
+turn EmptyPrefix = 4
+turn OutOfRange = 5
+turn AlreadyPivot = 6
+turn TooManyPivots = 7
+turn NoSuchSlot = 8
+turn NotPrefix = 9
+turn TooLong = 10
+turn NotBelow = 11
+turn NoRoom = 12
+
 -- a cause: whether it applies, and what is answered then
 pub data Cause : Type 0 where
   _⇒_ : Bool → Refusal → Cause
@@ -40,6 +56,11 @@ pub data Cause : Type 0 where
 unfoldable pub outcome : {A : Type 0} → (Refusal → A) → List Cause → A → A
 outcome refused [] value = value
 outcome refused ((applies ⇒ r) ∷ causes) value = cond applies (refused r) (outcome refused causes value)
+
+-- the causes come in that order, from the turn n on
+abbrev pub inTurn : ℕ → List Cause → Bool
+inTurn n [] = true
+inTurn n ((applies ⇒ r) ∷ causes) = leb n (turn r) && inTurn (turn r) causes
 
 abbrev pub first : List Cause → Option Refusal
 first causes = outcome some causes none

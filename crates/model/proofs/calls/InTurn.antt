@@ -1,0 +1,46 @@
+-- Each call lists its causes in the one order, so that "the first in the order" is the first of its list.
+use mathlib.Core.Path.{_≡_, refl}
+use mathlib.Core.Bool.{Bool, true, false}
+use mathlib.Core.List.{List}
+use Prim.Native.Nat.{ℕ}
+use Rattle.model.specs.calls.Refusals.{inTurn}
+use Rattle.model.specs.calls.KeyCalls.{compareCauses, pivotKeyCauses, entryKeyCauses, changePrefixCauses, pivotLcpCauses, uncommonPrefixCauses}
+use Rattle.model.specs.calls.TableCalls.{pivotCauses, tableCauses, containsRangeCauses, getKeyCauses, initPivotTableCauses, slotCauses}
+use Rattle.model.specs.calls.CutCalls.{cutCauses}
+use Rattle.model.specs.calls.InsertionCalls.{insertCauses}
+use Rattle.model.specs.calls.TranslationCalls.{translateKeyCauses}
+use Rattle.model.specs.calls.PairRecordCalls.{reversePairCauses, applyPairCauses, composePairsCauses, translatePairCauses}
+use Rattle.model.specs.calls.RenamingCalls.{pivotPairCauses, pivotsCauses, edgesCauses}
+use Rattle.model.specs.calls.ParentChildCalls.{parentChildCauses}
+use Rattle.model.specs.calls.BucketCalls.{bucketCauses, translateBucketCauses}
+use Rattle.model.specs.list.ShelfList.{listCauses, listTableCauses}
+
+module _ (a b c d e : List ℕ) where
+  -- keys and records
+  pub keys-in-turn : (inTurn 0 (compareCauses a b) ≡ true) × (inTurn 0 (pivotKeyCauses a) ≡ true) × (inTurn 0 (entryKeyCauses a) ≡ true)
+      × (inTurn 0 (changePrefixCauses a b c d) ≡ true) × (inTurn 0 (pivotLcpCauses a b) ≡ true) × (inTurn 0 (uncommonPrefixCauses a b) ≡ true)
+  keys-in-turn = (refl, refl, refl, refl, refl, refl)
+
+  -- tables; a check or a question that lists no more has the causes of pivots, or of a table
+  pub tables-in-turn : (t u : Bool) (i : ℕ) → (inTurn 0 (pivotCauses t u a) ≡ true) × (inTurn 0 (tableCauses t u a b) ≡ true) × (inTurn 0 (containsRangeCauses a b c) ≡ true)
+      × (inTurn 0 (getKeyCauses a i) ≡ true) × (inTurn 0 (initPivotTableCauses a) ≡ true) × (inTurn 0 (slotCauses a b t) ≡ true)
+  unfolding pivotCauses tableCauses
+  tables-in-turn t u i = (refl, refl, refl, refl, refl, refl)
+
+  -- cuts, insertion and translation
+  pub cuts-in-turn : (left : Bool) → (inTurn 0 (cutCauses left a b c d e) ≡ true) × (inTurn 0 (insertCauses a b c d e) ≡ true) × (inTurn 0 (translateKeyCauses a b c d) ≡ true)
+  unfolding pivotCauses tableCauses
+  cuts-in-turn left = (refl, refl, refl)
+
+  -- pairs
+  pub pairs-in-turn : (inTurn 0 (reversePairCauses a b) ≡ true) × (inTurn 0 (applyPairCauses a b c) ≡ true) × (inTurn 0 (composePairsCauses a b c) ≡ true)
+      × (inTurn 0 (translatePairCauses a b c d) ≡ true)
+  unfolding pivotCauses tableCauses
+  pairs-in-turn = (refl, refl, refl, refl)
+
+  -- renamed ranges, tables and buckets, parent and child, the list
+  pub others-in-turn : (i : ℕ) → (inTurn 0 (pivotPairCauses a b c d e) ≡ true) × (inTurn 0 (pivotsCauses a b c d e) ≡ true) × (inTurn 0 (edgesCauses a b c) ≡ true)
+      × (inTurn 0 (parentChildCauses a b c i) ≡ true) × (inTurn 0 (translateBucketCauses a b c d) ≡ true) × (inTurn 0 (listCauses a) ≡ true)
+      × (inTurn 0 (listTableCauses a b) ≡ true)
+  unfolding pivotCauses tableCauses bucketCauses listCauses
+  others-in-turn i = (refl, refl, refl, refl, refl, refl, refl)
