@@ -1,6 +1,6 @@
 -- What an insertion into a slot answers and writes.
 use mathlib.Core.Path.{_≡_, refl, sym, _∙_}
-use mathlib.Core.Bool.{Bool, true, false, _&&_, and-false, true≢false}
+use mathlib.Core.Bool.{Bool, true, false, _&&_, true≢false}
 use mathlib.Core.List.{List, [], _++_}
 use mathlib.Core.Option.{none, some}
 use Prim.Native.Nat.{ℕ, _+_, _*_, _-_, _≤_}
@@ -28,7 +28,7 @@ use Rattle.model.proofs.Lists.{rest, lent-on, length-over, over-all, take-over,
 use Rattle.model.proofs.calls.Refusals.{refused-first, none-here, accepted, refused, slot-accepted, slot-is}
 use Rattle.model.proofs.records.Record.{length-encodeEdge}
 use Rattle.model.proofs.keys.Key.{both, bytes-of}
-use Rattle.model.proofs.calls.InsertionCalls.{insert-found, insert-cutoff, insert-key, insert-pivots-bytes, insert-edges-bytes, insert-short}
+use Rattle.model.proofs.calls.InsertionCalls.{insert-found, insert-cutoff, insert-key, insert-pivots-bytes, insert-edges-bytes, insert-short, insert-half-long}
 use Rattle.cuts.specs.Slot.{edgeCut, edgesCut, longCauses, longEdges}
 use Rattle.cuts.proofs.Writes.{next-place, edge-taken}
 
@@ -70,11 +70,8 @@ module _ (p e k : List ℕ) (h : first (newPivotCauses p e k) ≡ none) where
   only-halves = insert-short p e k h
 
   half-long : (left : Bool) → shortEdge (edgeCut left p e k) ≡ false → all shortEdge (insertedEdges p e k) ≡ false
-  half-long true f = only-halves ∙ rw f
-  half-long false f = only-halves ∙ rw f (and-false (shortEdge (edgeCut true p e k)))
-
-  pub halves-short : shortEdge (edgeCut true p e k) ≡ true → shortEdge (edgeCut false p e k) ≡ true → all shortEdge (insertedEdges p e k) ≡ true
-  halves-short f g = only-halves ∙ rw (f, g)
+  unfolding edgeCut
+  half-long left f = insert-half-long p e k h left f
 
   pub short-halves : all shortEdge (insertedEdges p e k) ≡ true → (left : Bool) → shortEdge (edgeCut left p e k) ≡ true
   short-halves f true = both _ _ (sym only-halves ∙ f) .0

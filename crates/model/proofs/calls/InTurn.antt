@@ -2,8 +2,9 @@
 use mathlib.Core.Path.{_≡_, refl}
 use mathlib.Core.Bool.{Bool, true, false}
 use mathlib.Core.List.{List}
-use Prim.Native.Nat.{ℕ}
-use Rattle.model.specs.calls.Refusals.{inTurn}
+use Prim.Native.Nat.{ℕ, _+_}
+use Rattle.model.specs.declared.Refusal.the-variants.{OutOfRange, AlreadyPivot, TooManyPivots, NoSuchSlot, NotPrefix, TooLong, NotBelow, NoRoom}
+use Rattle.model.specs.calls.Refusals.{turn, inTurn}
 use Rattle.model.specs.calls.KeyCalls.{compareCauses, pivotKeyCauses, entryKeyCauses, changePrefixCauses, pivotLcpCauses, uncommonPrefixCauses}
 use Rattle.model.specs.calls.TableCalls.{pivotCauses, tableCauses, containsRangeCauses, getKeyCauses, initPivotTableCauses, slotCauses}
 use Rattle.model.specs.calls.CutCalls.{cutCauses}
@@ -14,6 +15,11 @@ use Rattle.model.specs.calls.RenamingCalls.{pivotPairCauses, pivotsCause
 use Rattle.model.specs.calls.ParentChildCalls.{parentChildCauses}
 use Rattle.model.specs.calls.BucketCalls.{bucketCauses, translateBucketCauses}
 use Rattle.model.specs.list.ShelfList.{listCauses, listTableCauses}
+
+-- "directly after 5", "directly after 11", and the others as they were
+pub directly-after : (turn OutOfRange + 1 ≡ turn AlreadyPivot) × (turn AlreadyPivot + 1 ≡ turn TooManyPivots) × (turn TooManyPivots + 1 ≡ turn NoSuchSlot)
+    × (turn NoSuchSlot + 1 ≡ turn NotPrefix) × (turn NotPrefix + 1 ≡ turn TooLong) × (turn TooLong + 1 ≡ turn NotBelow) × (turn NotBelow + 1 ≡ turn NoRoom)
+directly-after = (refl, refl, refl, refl, refl, refl, refl)
 
 module _ (a b c d e : List ℕ) where
   -- keys and records

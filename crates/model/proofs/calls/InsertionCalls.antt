@@ -1,6 +1,6 @@
 -- An insertion by its bytes: the slot of a key that has none of the causes 1 to 5, 11 and 12, and which records are written.
 use mathlib.Core.Path.{_≡_, sym, _∙_}
-use mathlib.Core.Bool.{Bool, true, false, not, _&&_, and-true}
+use mathlib.Core.Bool.{Bool, true, false, not, _&&_, and-true, and-false}
 use mathlib.Core.List.{List, [], _∷_, _++_, append-nil}
 use mathlib.Core.Option.{none, some}
 use Prim.Native.Nat.{ℕ, _+_, _*_, _/_, _≤_}
@@ -117,3 +117,8 @@ module _ (p e : List ℕ) (k : Key) (h : first (newPivotCauses p e k) ≡ none) 
   insert-short =
       let s = table-edges-short _ _ p e insert-table in
       rw (edges-list, all-append shortEdge (take c (edges e)) _, all-parts shortEdge c (edges e) s .0, all-parts shortEdge (c + 1) (edges e) s .1, and-true)
+
+  -- and either makes them long
+  pub insert-half-long : (left : Bool) → shortEdge (cutSlotEdge left (elements p) (edges e) k) ≡ false → all shortEdge (insertedEdges p e k) ≡ false
+  insert-half-long true f = insert-short ∙ rw f
+  insert-half-long false f = insert-short ∙ rw f (and-false (shortEdge leftEdge))

@@ -1,7 +1,7 @@
 -- Insertion is refused with 8 where a cut at the key is, unless 12 comes first, and nowhere else.
 use mathlib.Core.Path.{_≡_, refl, sym, _∙_}
 use mathlib.Core.Logic.{_⊎_, inl, inr, ⊎-elim}
-use mathlib.Core.Bool.{Bool, true, false, _&&_, and-false, true≢false}
+use mathlib.Core.Bool.{Bool, true, false, _&&_, true≢false}
 use mathlib.Core.List.{List, [], _++_}
 use mathlib.Core.Option.{none, some}
 use Prim.Native.Nat.{ℕ, _+_, _*_}
@@ -15,7 +15,6 @@ use Rattle.model.specs.keys.Order.{key, lte, lt}
 use Rattle.model.specs.records.Record.{recordSize, elements, edges}
 use Rattle.model.specs.tables.Tables.{PivotTable, EdgeTable, pivotAt, lastPivot, all, shortEdge, WFPivots, WFEdges, ContainsRange, BoundedKey, ValidLeftCutOffKey, CutoffForLeft, CutoffForRight, isPivot}
 use Rattle.model.specs.cuts.Sides.{inside}
-use Rattle.model.specs.inner.CutSlot.{cutSlotEdge}
 use Rattle.model.specs.calls.Refusals.{Cause, outcome, first}
 use Rattle.model.specs.calls.TableCalls.{pivotCauses, tableCauses, edgeSlotCauses}
 use Rattle.model.specs.calls.CutCalls.{cutPivots, cutEdges, roomCauses, writeCauses}
@@ -30,7 +29,7 @@ use Rattle.model.proofs.tables.NewPivot.{pivot-left, pivot-right}
 use Rattle.model.proofs.calls.TableCalls.{table-wf, table-edges, table-edges-short}
 use Rattle.model.proofs.cuts.SplitEdges.{split-left-pivot, split-right-pivot}
 use Rattle.model.proofs.calls.CutCalls.{cut-table, cut-inside, cut-short}
-use Rattle.model.proofs.calls.InsertionCalls.{insert-found, insert-short}
+use Rattle.model.proofs.calls.InsertionCalls.{insert-found, insert-short, insert-half-long}
 
 -- ---- the causes of what is written
 
@@ -142,12 +141,6 @@ module _ (p e : List ℕ) (k : Key) where
   long-edge true b h = inr h
   long-edge false b h = inl refl
 
-  -- and where the edge of either half is long they are not
-  long-half : (left : Bool) → shortEdge (cutSlotEdge left (elements p) (edges e) k) ≡ false
-      → (shortEdge (cutSlotEdge true (elements p) (edges e) k) && shortEdge (cutSlotEdge false (elements p) (edges e) k)) ≡ false
-  long-half true h = rw h
-  long-half false h = rw h (and-false (shortEdge (cutSlotEdge true (elements p) (edges e) k)))
-
   pub long-as-cuts : (d : Dests) → LongAsCuts p e k d
   long-as-cuts d = record { cut = cut; inserted = inserted }
     where
@@ -164,4 +157,4 @@ module _ (p e : List ℕ) (k : Key) where
       inserted left c h g =
           let w = cut-8 left c h in
           let new = new-unless d left (w .0) (w .1) g in
-          insert-long d new (insert-short p e k new ∙ long-half left (sym (cut-short left p e k (w .0)) ∙ w .1))
+          insert-long d new (insert-half-long p e k new left (sym (cut-short left p e k (w .0)) ∙ w .1))
