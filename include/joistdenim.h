@@ -32,8 +32,8 @@
 
 /* The version. A new call raises the minor; a changed signature, answer or format the major.
  * CHANGELOG.md says what a caller must do. */
-#define JD_VERSION_MAJOR 1
-#define JD_VERSION_MINOR 1
+#define JD_VERSION_MAJOR 2
+#define JD_VERSION_MINOR 0
 #define JD_VERSION_PATCH 0
 
 #define JD_MAX_LEN 64
@@ -265,8 +265,8 @@ uint32_t jd_parent_keys_in_child_range(const uint8_t *parent_pivots, size_t pare
 
 /* Writes the entries whose key begins with the prefix, in their order, with the prefix changed and
  * the number as it was; the others are passed over. Answers how many are written. The destination
- * must hold as many entries as the bucket has, however few are kept. Refuses JD_SHAPE,
- * JD_MALFORMED (of any entry), JD_TOO_LONG (of a kept one), JD_NO_ROOM. */
+ * must hold these alone: JD_ENTRY_SIZE bytes for each, and with none kept an empty one will do.
+ * Refuses JD_SHAPE, JD_MALFORMED (of any entry), JD_TOO_LONG (of a kept one), JD_NO_ROOM. */
 uint32_t jd_translate_bucket(const uint8_t *bucket, size_t bucket_len,
                              const uint8_t *prefix, size_t prefix_len,
                              const uint8_t *new_prefix, size_t new_prefix_len,

@@ -1,7 +1,7 @@
 /*
  * Buckets under another prefix from C, and the question whether they will fit: what is kept and in
- * which order, the limits of 512 entries and of 64 bytes, destinations, malformed entries, and
- * which refusal comes first.
+ * which order, the limits of 512 entries and of 64 bytes, destinations that hold what is kept and
+ * no more, malformed entries, and which refusal comes first.
  */
 #include "bucket.h"
 
@@ -14,14 +14,17 @@ static slice three(void)
 
 static const prefixes a_to_c = {{(const uint8_t *)"A", 1}, {(const uint8_t *)"C", 1}};
 
-/* These entries, into as many bytes as the bucket has and into more; a byte less is 10, and then
- * nothing changes, whatever would be kept. Whether it fits is asked too. */
+/* These entries, into as many bytes as they have, as the bucket has, and into more; a byte less
+ * than they have is 10, and then nothing changes. Whether it fits is asked too. */
 static void keeps(const char *name, slice bucket, prefixes p, slice written)
 {
-    size_t needed = bucket.length;
-    kept(name, bucket, p, needed, 0, written);
-    fits(name, bucket, p, needed, 0, 1);
-    kept(name, bucket, p, BUCKET_ROOM, 0, written);
+    size_t needed = written.length;
+    size_t enough[] = {needed, bucket.length, BUCKET_ROOM};
+    for (size_t i = 0; i < sizeof enough / sizeof *enough; i++) {
+        kept(name, bucket, p, enough[i], 0, written);
+        fits(name, bucket, p, enough[i], 0, 1);
+    }
+    fits(name, bucket, p, UINT64_C(1) << 32, 0, 1);
     fits(name, bucket, p, UINT64_MAX, 0, 1);
     if (needed == 0)
         return;
@@ -48,7 +51,7 @@ static void entries(void)
     prefixes nothing_changed = {none, none}, to_nothing = {BYTES("A"), none};
     keeps("order and numbers stay", three(), a_to_c, TABLE(entry(c5, 2), entry(c0, 3)));
     keeps("one is kept", three(), (prefixes){BYTES("A5"), BYTES("C5")}, entry(c5, 2));
-    keeps("none is kept", three(), (prefixes){BYTES("D"), BYTES("C")}, none);
+    keeps("none is kept, into 0 bytes", three(), (prefixes){BYTES("D"), BYTES("C")}, none);
     keeps("the prefix is longer than the keys", three(), (prefixes){BYTES("A0\0"), none}, none);
     keeps("all are kept", three(), nothing_changed, three());
     keeps("to nothing", TABLE(entry(a, 7), entry(a, 8)), to_nothing,
@@ -67,6 +70,16 @@ static void counts(void)
     refused("1, a byte missing", head(three(), 3 * JD_ENTRY_SIZE - 1), a_to_c, JD_SHAPE);
     refused("1, a byte more", head(three(), JD_ENTRY_SIZE + 1), a_to_c, JD_SHAPE);
     refused("1, a record alone", a0, a_to_c, JD_SHAPE);
+}
+
+/* 20 of 500 entries go into 20, and a byte less is 10. */
+static void small_drawer(void)
+{
+    static uint8_t drawer[500 * JD_ENTRY_SIZE];
+    slice a0 = key(BYTES("A0")), b0 = key(BYTES("B0")), c0 = key(BYTES("C0"));
+    for (unsigned i = 0; i < 500; i++)
+        put_entry(drawer + i * JD_ENTRY_SIZE, i % 25 == 7 ? a0 : b0, i / 25);
+    keeps("20 of 500", (slice){drawer, sizeof drawer}, a_to_c, many(20, c0));
 }
 
 /* 64 bytes produced are taken and 65 are 8, of entries that are kept. */
@@ -114,6 +127,7 @@ int main(void)
 {
     entries();
     counts();
+    small_drawer();
     limits();
     malformed();
     causes();

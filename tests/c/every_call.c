@@ -226,12 +226,12 @@ static void drawer_renamed(void)
     slice b = entry(key(BYTES("B")), 1), a0 = entry(key(BYTES("A0")), 2);
     slice drawer = TABLE(b, a0), renamed_a0 = entry(key(BYTES("C0")), 2);
     prefixes p = {BYTES("A"), BYTES("C")}, too_long = {BYTES("A"), full};
-    kept("translate_bucket", drawer, p, drawer.length, 0, renamed_a0);
+    kept("translate_bucket", drawer, p, JD_ENTRY_SIZE, 0, renamed_a0);
     kept("translate_bucket: 1", head(drawer, JD_ENTRY_SIZE + 1), p, BUCKET_ROOM, JD_SHAPE, none);
     kept("translate_bucket: 8", drawer, too_long, BUCKET_ROOM, JD_TOO_LONG, none);
-    kept("translate_bucket: 10", drawer, p, drawer.length - 1, JD_NO_ROOM, none);
-    fits("translate_bucket_will_fit: yes", drawer, p, drawer.length, 0, 1);
-    fits("translate_bucket_will_fit: no", drawer, p, drawer.length - 1, 0, 0);
+    kept("translate_bucket: 10", drawer, p, JD_ENTRY_SIZE - 1, JD_NO_ROOM, none);
+    fits("translate_bucket_will_fit: yes", drawer, p, JD_ENTRY_SIZE, 0, 1);
+    fits("translate_bucket_will_fit: no", drawer, p, JD_ENTRY_SIZE - 1, 0, 0);
     fits("translate_bucket_will_fit: no, too long", drawer, too_long, BUCKET_ROOM, 0, 0);
     fits("translate_bucket_will_fit: 2", drawer, (prefixes){over, none}, 0, JD_MALFORMED, 0);
 }

@@ -13,20 +13,18 @@ use lib.Seq.{length-take-le, take-append-seam, drop-append-seam}
 use mir.Syntax.{w64}
 use mir.Val.{Fits}
 use Rattle.model.specs.declared.Refusal.the-variants.{TooLong, NoRoom}
-use Rattle.model.specs.declared.Answer.the-variants.{Value, Refused}
 use Rattle.model.specs.keys.Key.{Key}
 use Rattle.model.specs.records.Record.{joined}
 use Rattle.model.specs.tables.Tables.{all}
-use Rattle.model.specs.buckets.Bucket.{Bucket, entrySize, entries, encodeEntry, encodeBucket, sizedEntry}
+use Rattle.model.specs.buckets.Bucket.{Bucket, entrySize, encodeEntry, encodeBucket}
 use Rattle.model.specs.calls.Refusals.{first, over}
-use Rattle.model.specs.calls.BucketCalls.{newBucket, shortEntry, neededBytes, bucketLong, bucketFull, renameCauses, translateBucketCauses, translateBucketAnswer}
+use Rattle.model.specs.calls.BucketCalls.{newBucket, shortEntry, neededBytes, bucketLong, bucketFull, renameCauses, translateBucketCauses}
 use Rattle.model.proofs.Lists.{rest, lent-on, over-append, length-over, all-append, le-or-lt}
 use Rattle.model.proofs.keys.Key.{both}
 use Rattle.model.proofs.records.Records.{joined-append}
 use Rattle.model.proofs.buckets.Entries.{length-encodeBucket}
-use Rattle.model.proofs.buckets.Bucket.{translated-wft}
-use Rattle.model.proofs.calls.Refusals.{passed, none-here, none-later, none-before, none-after}
-use Rattle.model.proofs.calls.BucketCalls.{bucket-most, bucket-sized, renamed-reads, renamed-passes}
+use Rattle.model.proofs.calls.Refusals.{none-here, none-later, none-before, none-after}
+use Rattle.model.proofs.calls.BucketCalls.{bucket-most, kept-sized}
 use Rattle.buckets.specs.Kept.{entryAt, Checked, Good, keptOf, keptBytes}
 use Rattle.buckets.proofs.Measuring.{left, left-over, left-next, entry-checked, kept-most}
 
@@ -61,22 +59,14 @@ module _ (l : List ℕ) (p q : Key) (d₀ : List ℕ) (h : first (translateBucke
       ltb-false (length d₀) (neededBytes l p q)
       (none-here (bucketFull l p q (length d₀)) NoRoom [] (none-later (bucketLong l p q) TooLong _ (none-after (renameCauses l p q) _ h)))
 
-  accepts : translateBucketAnswer l p q d₀ ≡ Value (length (newBucket l p q))
-  accepts = sym (passed Refused (Value (length (newBucket l p q))) _ (translateBucketCauses l p q d₀) h refl)
-
-  all-sized : all sizedEntry (newBucket l p q) ≡ true
-  all-sized = rw (renamed-reads l p q d₀ _ accepts) at (bucket-sized false _ (renamed-passes l p q d₀ _ accepts))
-
   -- the kept entries have their size each
   whole-length : length (encodeBucket (newBucket l p q)) ≡ length (newBucket l p q) * entrySize
-  whole-length = length-encodeBucket (newBucket l p q) all-sized
+  whole-length = length-encodeBucket (newBucket l p q) (kept-sized l p q all-good short)
 
   -- and have room
   whole-room : length (encodeBucket (newBucket l p q)) ≤ length d₀
-  whole-room =
-      let w = translated-wft (entries l) p q 0 (omega arith) .atMost in
-      let n : length (entries l) * entrySize ≤ length d₀ = unfold neededBytes in roomy in
-      omega (arith, whole-length)
+  unfolding neededBytes
+  whole-room = omega (arith, whole-length, roomy)
 
 -- ---- the pass
 

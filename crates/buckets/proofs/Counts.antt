@@ -1,9 +1,10 @@
--- How many entries are lent, and how long the prefixes are.
+-- How many entries are lent, how many have room, and how long the prefixes are.
 use mathlib.Core.Path.{_≡_, sym, _∙_}
 use mathlib.Core.Bool.{Bool, true, not, _||_}
 use mathlib.Core.List.{List}
 use mathlib.Core.Logic.{⊎-elim}
-use Prim.Native.Nat.{ℕ, _/_, _%_, _≤_, _<_}
+use Prim.Native.Nat.{ℕ, _*_, _/_, _%_, _≤_, _<_}
+use native.Mathlib.Omega.{arith}
 use borrow.Author.Tests.{ne-eqb, le-leb, lt-leb, lt-ltb, le-ltb}
 use lib.Dec.{leb, ltb}
 use lib.ListN.{length}
@@ -28,6 +29,16 @@ module _ (l : List ℕ) where
 
       many : maxEntries < length l / entrySize → ltb maxEntries (length l / entrySize) ≡ not (leb (length l / entrySize) maxEntries)
       many k = rw (lt-ltb maxEntries (length l / entrySize) k, lt-leb (length l / entrySize) maxEntries k)
+
+-- fewer whole entries have room than are kept just where the bytes of those have none
+pub fewer-fit : (n kept : ℕ) → ltb (n / entrySize) kept ≡ ltb n (kept * entrySize)
+fewer-fit n kept = ⊎-elim enough few (le-or-lt kept (n / entrySize))
+  where
+    enough : kept ≤ n / entrySize → ltb (n / entrySize) kept ≡ ltb n (kept * entrySize)
+    enough h = rw (le-ltb (n / entrySize) kept h, le-ltb n (kept * entrySize) (omega arith))
+
+    few : n / entrySize < kept → ltb (n / entrySize) kept ≡ ltb n (kept * entrySize)
+    few h = rw (lt-ltb (n / entrySize) kept h, lt-ltb n (kept * entrySize) (omega arith))
 
 module _ (p q : Key) where
   -- the prefix has more than 64 bytes

@@ -1,11 +1,12 @@
 -- The causes of a renaming by what its steps answer: the check, the measure, and the room.
-use mathlib.Core.Path.{_≡_, refl, sym, ap}
+use mathlib.Core.Path.{_≡_, refl, sym, ap, _∙_}
 use mathlib.Core.Bool.{Bool, true, false, not, _||_}
 use mathlib.Core.List.{List, [], _∷_}
 use mathlib.Core.Option.{none, some}
-use Prim.Native.Nat.{ℕ, _/_, _≤_, _<_}
+use Prim.Native.Nat.{ℕ, _*_, _/_}
 use native.Mathlib.Omega.{arith}
-use borrow.Author.Tests.{lt-ltb, le-ltb}
+use borrow.Author.Tests.{not-true, not-false}
+use lib.Dec.{ltb}
 use lib.ListN.{length}
 use Rattle.model.specs.declared.Refusal.{Refusal}
 use Rattle.model.specs.declared.Refusal.the-variants.{TooLong, NoRoom}
@@ -19,13 +20,7 @@ use Rattle.model.specs.buckets.Bucket.{entrySize, encodeBucket}
 use Rattle.model.specs.calls.Refusals.{_⇒_, outcome, first, answer, yesOrNo, over}
 use Rattle.model.specs.calls.BucketCalls.{bucketCauses, newBucket, neededBytes, bucketLong, bucketFull, renameCauses, translateBucketCauses, translateBucketAnswer, translateBucketLeaves, willFitAnswer}
 use Rattle.model.proofs.calls.Refusals.{here, later, after, accepted, value-is, refused, refused-by, refused-first, passed, none-here}
-use Rattle.model.proofs.calls.BucketCalls.{bucket-count, bucket-whole}
 use Rattle.buckets.specs.Kept.{Good, longCauses}
-
--- the room that the code asks for is what is needed
-needed-is : (l : List ℕ) (p q : Key) (n : ℕ) → Good l p q → n ≡ length l → n ≡ neededBytes l p q
-unfolding neededBytes
-needed-is l p q n h e = omega (arith, bucket-count _ l h, bucket-whole _ l h)
 
 -- ---- the check
 
@@ -63,21 +58,29 @@ module _ (l : List ℕ) (p q : Key) (b : Answer) (h : Good l p q) (f : b ≡ ans
     pub count-is : kept ≡ length (newBucket l p q)
     count-is = value-is (longCauses (newBucket l p q)) _ b f kept k
 
-    module _ (n : ℕ) (c : n ≡ length l) where
+    -- whether so many bytes are too few for it is whether there is no room
+    full-is : (m : ℕ) (t : Bool) → t ≡ ltb m (kept * entrySize) → bucketFull l p q m ≡ t
+    unfolding neededBytes
+    full-is m t c = rw (c, count-is)
+
+    module _ (m : ℕ) (t : Bool) (c : t ≡ ltb m (kept * entrySize)) (d : List ℕ) (e : m ≡ length d) where
+      room-is : bucketFull l p q (length d) ≡ t
+      room-is = rw e at (full-is m t c)
+
       -- too little room makes the outcome
-      pub room-refused : {A : Type 0} (o : Refusal → A) (v x : A) (d : List ℕ) → length d < n → x ≡ o NoRoom → x ≡ outcome o (translateBucketCauses l p q d) v
-      room-refused o v x d j g =
+      pub room-refused : {A : Type 0} (o : Refusal → A) (v x : A) → t ≡ true → x ≡ o NoRoom → x ≡ outcome o (translateBucketCauses l p q d) v
+      room-refused o v x j g =
           after o v x (renameCauses l p q) _ h
           (later o v x (bucketLong l p q) TooLong _ not-long
-          (here o v x (bucketFull l p q (length d)) NoRoom [] (lt-ltb (length d) (neededBytes l p q) (rw (← needed-is l p q n h c) j)) g))
+          (here o v x (bucketFull l p q (length d)) NoRoom [] (room-is ∙ j) g))
 
-      module _ (d : List ℕ) (j : n ≤ length d) where
+      module _ (j : t ≡ false) where
         -- with enough of it no cause applies
         pub no-cause : first (translateBucketCauses l p q d) ≡ none
         no-cause =
             sym (after some none none (renameCauses l p q) _ h
             (later some none none (bucketLong l p q) TooLong _ not-long
-            (later some none none (bucketFull l p q (length d)) NoRoom [] (le-ltb (length d) (neededBytes l p q) (rw (← needed-is l p q n h c) j)) (unfold outcome in refl))))
+            (later some none none (bucketFull l p q (length d)) NoRoom [] (room-is ∙ j) (unfold outcome in refl))))
 
         -- the count is answered
         pub count-answered : Value kept ≡ translateBucketAnswer l p q d
@@ -99,14 +102,14 @@ module _ (l : List ℕ) (p q : Key) (b : Answer) (h : Good l p q) (f : b ≡ ans
       go true e = refl
       go false e = let z = rw e at f in let x : _≡_ {A = ℕ} 0 1 = cc in absurd (omega arith)
 
-  module _ (kept : ℕ) (k : b ≡ Value kept) (n : ℕ) (c : n ≡ length l) where
+  module _ (kept : ℕ) (k : b ≡ Value kept) (t : Bool) (c : t ≡ ltb m (kept * entrySize)) where
     -- nor where there is too little room
-    pub room-no : m < n → No ≡ yesOrNo (not (bucketLong l p q || bucketFull l p q m))
-    room-no j = rw (not-long l p q b h f kept k, lt-ltb m (neededBytes l p q) (rw (← needed-is l p q n h c) j))
+    pub room-no : not t ≡ false → No ≡ yesOrNo (not (bucketLong l p q || bucketFull l p q m))
+    room-no j = rw (not-long l p q b h f kept k, full-is l p q b h f kept k m t c, not-false t j)
 
     -- else it fits
-    pub fits-yes : n ≤ m → Yes ≡ yesOrNo (not (bucketLong l p q || bucketFull l p q m))
-    fits-yes j = rw (not-long l p q b h f kept k, le-ltb m (neededBytes l p q) (rw (← needed-is l p q n h c) j))
+    pub fits-yes : not t ≡ true → Yes ≡ yesOrNo (not (bucketLong l p q || bucketFull l p q m))
+    fits-yes j = rw (not-long l p q b h f kept k, full-is l p q b h f kept k m t c, not-true t j)
 
 -- what is said of a good bucket is the answer
 pub will-decided : (l : List ℕ) (p q : Key) (m : ℕ) (x : Decided) → Good l p q → x ≡ yesOrNo (not (bucketLong l p q || bucketFull l p q m)) → x ≡ willFitAnswer l p q m

@@ -7,9 +7,11 @@ use model::ENTRY_SIZE;
 use model::MAX_LEN;
 use model::Refusal;
 ghost use mathlib.Core.Path.{_≡_};
-ghost use Prim.Native.Nat.{_≤_};
+ghost use Prim.Native.Nat.{_*_, _≤_};
+ghost use lib.Dec.{ltb};
 ghost use lib.ListN.{length};
 ghost use Rattle.model.specs.keys.Key.{maxLen};
+ghost use Rattle.model.specs.buckets.Bucket.{entrySize};
 ghost use Rattle.model.specs.calls.Refusals.{answer};
 ghost use Rattle.model.specs.calls.BucketCalls.{newBucket};
 ghost use Rattle.buckets.specs.Kept.{Checked, Good, keptOf, longCauses};
@@ -47,9 +49,9 @@ pub(crate) fn measure(bucket: &[u8], prefix: &[u8], new_prefix: &[u8]) -> Answer
     Answer::Value(kept)
 }
 
-// The bytes that the destination must hold: as many entries as the bucket.
-pub(crate) fn needed(bucket: &[u8]) -> usize
-    ensures { λ r. ⌜ r ≡ length (now (bucket .entry)) ⌝ }
+// Cause 10: whether a destination of so many bytes holds fewer entries than are kept. By a quotient, since a product could wrap.
+pub(crate) fn too_short(dest_len: usize, kept: usize) -> bool
+    ensures { λ r. ⌜ r ≡ ltb «dest_len» (kept * entrySize) ⌝ }
 {
-    bucket.len()
+    dest_len / ENTRY_SIZE < kept
 }

@@ -1,7 +1,7 @@
 // TranslateBucket, and whether it would be accepted.
 use crate::check::check_bucket;
 use crate::measure::measure;
-use crate::measure::needed;
+use crate::measure::too_short;
 use crate::write::put_entries;
 use model::Answer;
 use model::Decided;
@@ -38,7 +38,7 @@ pub fn translate_bucket(bucket: &[u8], prefix: &[u8], new_prefix: &[u8], dest: &
     let Answer::Value(kept) = measured else {
         return measured;
     };
-    if dest.len() < needed(bucket) {
+    if too_short(dest.len(), kept) {
         return Answer::Refused(Refusal::NoRoom);
     }
     put_entries(bucket, prefix, new_prefix, kept, dest);
@@ -50,10 +50,10 @@ fn fits(bucket: &[u8], prefix: &[u8], new_prefix: &[u8], dest_len: usize) -> Dec
     requires { ⌜ Good (now bucket) (now prefix) (now «new_prefix») ⌝ }
     ensures { λ r. ⌜ r ≡ yesOrNo (not (bucketLong (now (bucket .entry)) (now (prefix .entry)) (now («new_prefix» .entry)) || bucketFull (now (bucket .entry)) (now (prefix .entry)) (now («new_prefix» .entry)) «dest_len»)) ⌝ }
 {
-    let Answer::Value(_) = measure(bucket, prefix, new_prefix) else {
+    let Answer::Value(kept) = measure(bucket, prefix, new_prefix) else {
         return Decided::No;
     };
-    if needed(bucket) <= dest_len {
+    if !too_short(dest_len, kept) {
         return Decided::Yes;
     }
     Decided::No

@@ -4,7 +4,7 @@ use mathlib.Core.List.{List, [], _∷_, _++_}
 use Prim.Native.Nat.{ℕ, _*_}
 use Rattle.model.specs.declared.Answer.{Answer}
 use Rattle.model.specs.declared.Answer.the-variants.{Value, Refused}
-use Rattle.model.specs.declared.Refusal.the-variants.{EmptyPrefix, OutOfRange, NoRoom, AlreadyPivot}
+use Rattle.model.specs.declared.Refusal.the-variants.{EmptyPrefix, OutOfRange, TooLong, NoRoom, AlreadyPivot}
 use Rattle.model.specs.keys.Key.{Key, changePrefix, IsPrefix}
 use Rattle.model.specs.keys.Order.{key, lteKey, lte, lastPlace, LargestLte, LargestLt}
 use Rattle.model.specs.ranges.RangePrefix.{lcpright, lcp, PivotLcp}
@@ -46,16 +46,17 @@ pub four-before-five : translateKeyAnswer (encodeAll (key (0x41 ∷ []) ∷ key 
 unfolding outcome tableCauses pivotCauses notPivotCount notEdgeCount pivotsRead edgesRead records pieces elements edges encodeAll encodeEdges encode encodeEdge recordOf joined reading fieldReading lengthField allZero element edgeOf keyBytes IsStrictlySorted risesFrom lte lteKey all WFEdges edgesFit PivotLcp lcp lcpright
 four-before-five = refl
 
--- three entries of 70 bytes with the key 41, none kept: a destination of 209 bytes is 10, one of 210 is taken
-abbrev pub entry41 : Entry
-entry41 = record { key = 0x41 ∷ []; number = 0 ∷ 0 ∷ 0 ∷ 1 ∷ [] }
+-- FORMAT's bucket of three entries: where two are kept a destination of 139 bytes is 10 and one of 140 is taken, where none is one of 0 bytes is; 8 comes before 10
+abbrev pub entryOne : Key → Entry
+entryOne k = record { key = k; number = 0 ∷ 0 ∷ 0 ∷ 1 ∷ [] }
 
-abbrev pub threeEntries : List ℕ
-threeEntries = encodeBucket (entry41 ∷ entry41 ∷ entry41 ∷ [])
+abbrev pub threeRenamed : Key → Key → List ℕ → Answer
+threeRenamed p q d = translateBucketAnswer (encodeBucket (entryOne (0x42 ∷ []) ∷ entryOne (0x41 ∷ 0x35 ∷ []) ∷ entryOne (0x41 ∷ 0x30 ∷ []) ∷ [])) p q d
 
-pub room-of-three : (translateBucketAnswer threeEntries (0x42 ∷ []) [] (zeros 209) ≡ Refused NoRoom) × (translateBucketAnswer threeEntries (0x42 ∷ []) [] (zeros 210) ≡ Value 0)
-unfolding outcome bucketCauses notEntryCount entriesRead neededBytes entryBytes entries entryOf pieces encodeBucket encodeEntry joined recordOf reading fieldReading lengthField allZero keyBytes all IsPrefix TranslateBucket
-room-of-three = (refl, refl)
+pub room-of-three : (threeRenamed (0x41 ∷ []) (0x43 ∷ []) (zeros 139) ≡ Refused NoRoom) × (threeRenamed (0x41 ∷ []) (0x43 ∷ []) (zeros 140) ≡ Value 2)
+    × (threeRenamed (0x44 ∷ []) (0x43 ∷ []) [] ≡ Value 0) × (threeRenamed (0x41 ∷ []) (zeros 64) [] ≡ Refused TooLong)
+unfolding outcome bucketCauses notEntryCount entriesRead neededBytes entryBytes entries entryOf pieces encodeBucket encodeEntry joined recordOf reading fieldReading lengthField allZero keyBytes all IsPrefix changePrefix TranslateBucket
+room-of-three = (refl, refl, refl, refl)
 
 -- T with 41 31 put in, as FORMAT has it; its last pivot is refused with 11, and what is above it with 5
 abbrev pub insertsT : Key → List ℕ → List ℕ → Answer

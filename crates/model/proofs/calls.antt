@@ -10,6 +10,7 @@ pub mod TranslationCalls
 pub mod RenamingCalls
 pub mod ParentChildCalls
 pub mod BucketCalls
+pub mod BucketRoom
 pub mod Alike
 pub mod SlotCalls
 pub mod PivotKeys

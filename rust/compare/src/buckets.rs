@@ -15,6 +15,7 @@ use calls::{TRANSLATE_BUCKET, TRANSLATE_BUCKET_WILL_FIT};
 pub fn tests() -> Vec<Test> {
     let mut tests = vec![
         test("buckets by hand", by_hand::buckets),
+        test("buckets: 20 of 500 by hand", by_hand::small_drawers),
         test("buckets: 0, 512 and 513 entries by hand", by_hand::counts),
         test("buckets: 64 and 65 bytes produced", by_hand::limits),
         test("buckets: order of causes by hand", by_hand::order_of_causes),
@@ -41,11 +42,12 @@ type Body = fn(&mut Group, usize);
 
 /// So many random cases each.
 fn random_tests() -> impl Iterator<Item = Test> {
-    let bodies: [(&str, Body, usize); 7] = [
+    let bodies: [(&str, Body, usize); 8] = [
         ("buckets: any ones, random", random::any, 40_000),
         ("buckets: small ones, random", random::small, 10_000),
         ("buckets: large ones, random", random::large, 2_000),
         ("law: a bucket will fit", laws::will_fit, 4_000),
+        ("law: the room of a bucket", laws::room, 4_000),
         ("law: a bucket renamed and back", laws::and_back, 4_000),
         ("law: a rising bucket stays rising", laws::rising, 4_000),
         ("law: a bucket key by key", laws::each_key, 4_000),

@@ -5,8 +5,7 @@ use crate::refusal::Refusal;
 
 /// Writes the entries whose key begins with the prefix, in their order, with the prefix changed
 /// and the number as it was; the others are passed over. Answers how many are written. The
-/// destination must hold as many entries as the bucket has, however few are kept.
-/// Refuses 1, 2, 8, 10.
+/// destination must hold these alone: with none kept, an empty one will do. Refuses 1, 2, 8, 10.
 ///
 /// ```
 /// use joistdenim::{entry_key, translate_bucket, ENTRY_SIZE};
@@ -15,10 +14,10 @@ use crate::refusal::Refusal;
 /// let mut bucket = [0; 2 * ENTRY_SIZE];
 /// bucket[..3].copy_from_slice(&[0, 1, 0x42]);
 /// bucket[ENTRY_SIZE..][..4].copy_from_slice(&[0, 2, 0x41, 0x30]);
-/// let mut dest = [0; 2 * ENTRY_SIZE];
+/// let mut dest = [0; ENTRY_SIZE];
 /// let kept = translate_bucket(&bucket, &[0x41], &[0x43], &mut dest)?;
 /// assert_eq!(kept, 1);
-/// assert_eq!(entry_key(&dest[..ENTRY_SIZE])?, [0x43, 0x30]);
+/// assert_eq!(entry_key(&dest)?, [0x43, 0x30]);
 /// # Ok::<(), joistdenim::Refusal>(())
 /// ```
 pub fn translate_bucket(

@@ -3,7 +3,7 @@ use crate::test_tables::{bucket, entry, field, max, no_edge, record};
 use crate::*;
 use Refusal::*;
 
-/// What a destination must have for a bucket of this many entries.
+/// What a destination must have for this many entries that are kept.
 fn needed(entries: usize) -> usize {
     entries * ENTRY_SIZE
 }
@@ -90,21 +90,37 @@ fn entries_of_the_bucket_0_512_and_513() {
     assert_eq!(renamed(&[0], &[0x41], &[0x43]), Err(Shape));
 }
 
-/// "The destination must hold as many entries as the source bucket", even if none is kept.
+/// "the destination must hold only the entries kept"; what was enough before is so still.
 #[test]
-fn the_destination_holds_the_source() {
+fn the_destination_holds_the_kept() {
     let three = three();
     for (prefix, kept) in [(0x44, 0), (0x42, 1), (0x41, 2)] {
         let to = |dest| into(dest, &three, &[prefix], &[0x43]);
-        assert_eq!(to(needed(3)).unwrap().len(), needed(kept));
-        for short in [0, needed(kept), needed(3) - 1] {
-            assert_eq!(to(short), Err(NoRoom));
+        for enough in [needed(kept), needed(kept) + 1, needed(3) - 1, needed(3)] {
+            assert_eq!(to(enough).unwrap().len(), needed(kept));
         }
+        let short = if kept == 0 { Ok(vec![]) } else { Err(NoRoom) };
+        assert_eq!(to(0), short);
+        assert_eq!(to(needed(kept).saturating_sub(1)), short);
     }
     let fits = |len| translate_bucket_will_fit(&three, &[0x41], &[0x43], len);
+    assert_eq!(fits(139), Ok(false));
+    assert_eq!(fits(140), Ok(true));
     assert_eq!(fits(u64::MAX), Ok(true));
     assert_eq!(fits(1 << 32), Ok(true));
     assert_eq!(fits(0), Ok(false));
+}
+
+/// "rename 20 promo cards out of a drawer of 500".
+#[test]
+fn twenty_of_500() {
+    let [card, other, renamed]: [&[u8]; 3] = [&[0x41, 0x30], &[0x42, 0x30], &[0x43, 0x30]];
+    let key = |i: u32| if i % 25 == 7 { card } else { other };
+    let source: Vec<_> = (0..500).map(|i| (key(i), i)).collect();
+    let kept: Vec<_> = (0..20).map(|i| (renamed, 25 * i + 7)).collect();
+    let to = |dest| into(dest, &entries(&source), &[0x41], &[0x43]);
+    assert_eq!(to(needed(20)), Ok(entries(&kept)));
+    assert_eq!(to(needed(20) - 1), Err(NoRoom));
 }
 
 /// "produced 64 taken, 65 gives 8"; of entries that are passed over no length matters.

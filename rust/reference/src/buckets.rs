@@ -39,7 +39,6 @@ impl<'a> Kept<'a> {
 
 /// A bucket under another prefix, with keys of any length.
 struct Renamed<'a> {
-    entries: Vec<Entry<'a>>,
     kept: Vec<Kept<'a>>,
 }
 
@@ -54,12 +53,12 @@ impl<'a> Renamed<'a> {
             .iter()
             .filter_map(|entry| Kept::of(entry, prefix, new_prefix))
             .collect();
-        Ok(Renamed { entries, kept })
+        Ok(Renamed { kept })
     }
 
-    /// "The destination must hold as many entries as the source bucket": the bytes that it needs.
+    /// "the destination must hold only the entries kept": the bytes that it needs.
     fn needed(&self) -> usize {
-        self.entries.len() * ENTRY_SIZE
+        self.kept.len() * ENTRY_SIZE
     }
 
     /// Cause 8 of the entries kept, then cause 10 of a destination of this length.

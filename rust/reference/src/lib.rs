@@ -1,5 +1,6 @@
-//! A separate implementation of joistdenim's calls, in plain Rust, written from document 01's
-//! words. The archive is compared with it; it shares no code with the archive or its wrapper.
+//! A separate implementation of joistdenim's calls, in plain Rust, written from the words of
+//! document 01 and of the change requests. The archive is compared with it; it shares no code with
+//! the archive or its wrapper.
 //!
 //! A call reads its bytes into `Element`, `Edge` and `Entry` values first, and a `?` for each
 //! cause stands in the call's order of causes: cause 1 of every argument, then cause 2 of every

@@ -71,10 +71,10 @@ module _ (l : List ℕ) (p q : Key) (d : List ℕ) where
   translation-impl-391 h = refuses-at _ _ (translateBucketCauses l p q d) 2 _ _ _ refl (not-fails _ h)
 
   -- requires WillFitInPkv(mbucket, prefix, newPrefix);
-  -- the destination would not hold the whole bucket
-  pub translation-impl-391b : length d < length (entries l) * entrySize → RefusesAt answers.Refused (translateBucketCauses l p q d) 3 NoRoom (translateBucketAnswer l p q d)
+  -- the destination would not hold the entries kept
+  pub translation-impl-391b : length d < length (TranslateBucket (entries l) p q) * entrySize → RefusesAt answers.Refused (translateBucketCauses l p q d) 3 NoRoom (translateBucketAnswer l p q d)
   unfolding bucketCauses neededBytes
-  translation-impl-391b h = refuses-at _ _ (translateBucketCauses l p q d) 3 _ _ _ refl (lt-ltb (length d) (length (entries l) * entrySize) h)
+  translation-impl-391b h = refuses-at _ _ (translateBucketCauses l p q d) 3 _ _ _ refl (lt-ltb (length d) (length (TranslateBucket (entries l) p q) * entrySize) h)
 
   -- ensures mbucket'.Inv()
   -- what an accepted call leaves passes the check of a bucket
@@ -92,17 +92,17 @@ module _ (b : Bucket) (z : all sizedEntry b ≡ true) (m : length b ≤ maxEntri
   rename-lent = rw (not-too-long p s, not-too-long q t) (written-bucket b z m)
 
   -- ensures b == TranslateBucketWillFit(mbucket.I(), prefix, newPrefix)
-  -- no kept key passes 64 bytes, and n bytes hold the whole bucket
-  pub translation-impl-330b : (n : ℕ) → willFitAnswer (encodeBucket b) p q n ≡ yesOrNo (all shortEntry (TranslateBucket b p q) && leb (length b * entrySize) n)
+  -- no kept key passes 64 bytes, and n bytes hold the entries kept
+  pub translation-impl-330b : (n : ℕ) → willFitAnswer (encodeBucket b) p q n ≡ yesOrNo (all shortEntry (TranslateBucket b p q) && leb (length (TranslateBucket b p q) * entrySize) n)
   unfolding neededBytes
-  translation-impl-330b n = accepted _ _ (renameCauses (encodeBucket b) p q) rename-lent ∙ rw (entries-encodeBucket b z, neither (all shortEntry (TranslateBucket b p q)) (length b * entrySize) n)
+  translation-impl-330b n = accepted _ _ (renameCauses (encodeBucket b) p q) rename-lent ∙ rw (entries-encodeBucket b z, neither (all shortEntry (TranslateBucket b p q)) (length (TranslateBucket b p q) * entrySize) n)
 
   -- ensures mbucket'.I() == TranslateBucket(mbucket.I(), prefix, newPrefix)
-  pub translation-impl-393 : (d : List ℕ) → all shortEntry (TranslateBucket b p q) ≡ true → length b * entrySize ≤ length d
+  pub translation-impl-393 : (d : List ℕ) → all shortEntry (TranslateBucket b p q) ≡ true → length (TranslateBucket b p q) * entrySize ≤ length d
       → (translateBucketAnswer (encodeBucket b) p q d ≡ answers.Value (length (TranslateBucket b p q)))
       × (translateBucketLeaves (encodeBucket b) p q d ≡ over (encodeBucket (TranslateBucket b p q)) d)
   unfolding outcome neededBytes
   translation-impl-393 d k room =
       let c = translateBucketCauses (encodeBucket b) p q d in
-      let n : first c ≡ none = go-on some none (renameCauses (encodeBucket b) p q) _ rename-lent ∙ rw (entries-encodeBucket b z, k, le-ltb (length d) (length b * entrySize) room) in
+      let n : first c ≡ none = go-on some none (renameCauses (encodeBucket b) p q) _ rename-lent ∙ rw (entries-encodeBucket b z, k, le-ltb (length d) (length (TranslateBucket b p q) * entrySize) room) in
       (accepted _ _ c n ∙ rw (entries-encodeBucket b z), accepted _ _ c n ∙ rw (entries-encodeBucket b z))

@@ -101,6 +101,10 @@ renamed-sized (e ∷ b) p q h j = go (IsPrefix p (e .key)) (both (sizedEntry e) 
         rw (s .0, n .1) (r (s .1))
     go false w j r = r j
 
+-- kept of a bucket without causes 1, 2 and 8 they are
+pub kept-sized : (l : List ℕ) (p q : Key) → first (renameCauses l p q) ≡ none → all shortEntry (newBucket l p q) ≡ true → all sizedEntry (newBucket l p q) ≡ true
+kept-sized l p q h s = renamed-sized (entries l) p q (bucket-sized _ l h) s
+
 -- ---- what a bucket, written, is
 
 -- the record of an entry that is sized reads as a key
@@ -141,7 +145,7 @@ module _ (l : List ℕ) (p q : Key) (d : List ℕ) (m : ℕ) (h : translateBucke
   short = not-false _ (none-here (bucketLong l p q) TooLong _ (none-after (renameCauses l p q) _ no-cause))
 
   all-sized : all sizedEntry (newBucket l p q) ≡ true
-  all-sized = renamed-sized (entries l) p q (bucket-sized _ l checked) short
+  all-sized = kept-sized l p q checked short
 
   -- it answers the count of entries kept
   pub bucket-answers : m ≡ length (newBucket l p q)

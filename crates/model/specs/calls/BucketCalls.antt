@@ -34,9 +34,9 @@ newBucket l p q = TranslateBucket (entries l) p q
 abbrev pub shortEntry : Entry → Bool
 shortEntry e = leb (length (e .key)) maxLen
 
--- "The destination must hold as many entries as the source bucket": the bytes that it needs
+-- W2: "the destination must hold only the entries kept": the bytes that it needs
 unfoldable pub neededBytes : List ℕ → Key → Key → ℕ
-neededBytes l p q = length (entries l) * entrySize
+neededBytes l p q = length (newBucket l p q) * entrySize
 
 -- causes 8, of the kept entries, and 10, of a destination of n bytes
 abbrev pub bucketLong : List ℕ → Key → Key → Bool

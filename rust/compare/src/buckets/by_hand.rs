@@ -1,15 +1,10 @@
-//! Cases with their results written down by hand, from document 01.
+//! Cases with their results written down by hand, from document 01 and W2.
 use super::calls::{TRANSLATE_BUCKET, TRANSLATE_BUCKET_WILL_FIT};
 use crate::asked::Asked;
 use crate::bucket_inputs::{bucket_of, numbered, with_record, wrong_records};
 use crate::group::{Group, Wanted};
 use crate::inputs::{record, ENTRY_SIZE, MAX_ENTRIES};
 use Wanted::{Answer, Refusal};
-
-/// The bytes that a bucket's destination must have, whatever is kept.
-fn needed(bucket: &[u8]) -> usize {
-    bucket.len()
-}
 
 /// Whether it will fit, by hand too.
 fn fits(group: &mut Group, slices: [&[u8]; 3], len: u64, wanted: &Wanted) {
@@ -18,11 +13,12 @@ fn fits(group: &mut Group, slices: [&[u8]; 3], len: u64, wanted: &Wanted) {
     group.expect(&TRANSLATE_BUCKET_WILL_FIT, &asked, wanted);
 }
 
-/// These entries, in a destination exactly long enough and in a longer one; and 10 a byte below.
+/// These entries, in a destination exactly long enough for them and in longer ones, also one as
+/// long as the bucket; and 10 a byte below.
 fn writes(group: &mut Group, slices: [&[u8]; 3], written: &[u8]) {
-    let needed = needed(slices[0]);
-    let kept = written.len() / ENTRY_SIZE;
-    for dest in [needed, needed + 7, needed + ENTRY_SIZE] {
+    let needed = written.len();
+    let kept = needed / ENTRY_SIZE;
+    for dest in [needed, needed + 7, needed + ENTRY_SIZE, slices[0].len()] {
         let asked = Asked::new(&slices, 0, dest);
         group.expect(&TRANSLATE_BUCKET, &asked, &Answer(kept as i64, written));
         fits(group, slices, dest as u64, &Answer(1, &[]));
@@ -42,7 +38,7 @@ fn writes(group: &mut Group, slices: [&[u8]; 3], written: &[u8]) {
 /// Refused with this number, whether there is room or not; 8 doesn't fit, and 1 and 2 are refusals
 /// of the question too.
 fn refuses(group: &mut Group, slices: [&[u8]; 3], number: u32) {
-    for dest in [0, needed(slices[0]), needed(slices[0]) + 7] {
+    for dest in [0, slices[0].len(), slices[0].len() + 7] {
         let asked = Asked::new(&slices, 0, dest);
         group.expect(&TRANSLATE_BUCKET, &asked, &Refusal(number));
         let wanted = match number {
@@ -79,6 +75,18 @@ pub fn buckets(group: &mut Group) {
     let same = bucket_of(&[[0x41]; 4]);
     writes(group, [&same, &[0x41], &[0x43]], &bucket_of(&[[0x43]; 4]));
     writes(group, [&[], &[0x41], &[0x43]], &[]);
+}
+
+/// "rename 20 promo cards out of a drawer of 500", which fit into 20 entries; and none of them.
+pub fn small_drawers(group: &mut Group) {
+    let promo = |i: usize| i % 25 == 7;
+    let key = |i: usize| [0x41 + u8::from(promo(i)), 0x30];
+    let drawer = bucket_of(&(0..500).map(key).collect::<Vec<_>>());
+    let places = (0..500).filter(|i| promo(*i));
+    let cards: Vec<(usize, &[u8])> = places.map(|i| (i, &[0x43, 0x30][..])).collect();
+    group.check(cards.len() == 20, || format!("{} cards", cards.len()));
+    writes(group, [&drawer, &[0x42], &[0x43]], &kept(&cards));
+    writes(group, [&drawer, &[0x44], &[0x43]], &[]);
 }
 
 /// "entries 512 taken, 513 gives 1"; entries that aren't whole.

@@ -61,6 +61,37 @@ pub fn will_fit(group: &mut Group, count: usize) {
     group.sorts(&seen);
 }
 
+/// A destination that holds the entries kept is taken and a shorter one is 10; a longer one, as
+/// long as the bucket or not, gets the same answer and bytes.
+pub fn room(group: &mut Group, count: usize) {
+    let mut seen = [0; 2];
+    each_renaming(count, |_, renaming| {
+        let (old, new) = (&renaming.prefix, &renaming.new_prefix);
+        let bucket = renaming.bucket();
+        let Ok(moved) = renamed(&bucket, old, new) else {
+            return;
+        };
+        for len in lengths_around([&bucket, old, new]) {
+            let mut left = vec![7; len];
+            let got = translate_bucket(&bucket, old, new, &mut left).map_err(|r| r.number());
+            let mut wanted = vec![7; len];
+            let fits = moved.len() <= len;
+            let answer = if fits {
+                wanted[..moved.len()].copy_from_slice(&moved);
+                Ok(moved.len() / ENTRY_SIZE)
+            } else {
+                Err(10)
+            };
+            group.check(got == answer && left == wanted, || {
+                let case = text(&bucket, old, new);
+                format!("{case}, {len}: {got:?}, wanted {answer:?}")
+            });
+            seen[usize::from(fits)] += 1;
+        }
+    });
+    group.sorts(&seen);
+}
+
 /// Renamed and then back, a bucket has the entries that begin with the prefix, as they were.
 pub fn and_back(group: &mut Group, count: usize) {
     let mut seen = [0; 2];

@@ -9,17 +9,17 @@ ruleset rules = (needs, long-no, room-no, fits-yes)
 measure-requires : tie.Need-measure-requires
 measure-requires c κs = search rules
 
+enum-known-kept : tie.Need-enum-known-kept
+enum-known-kept c = search rules
+
 enum-told : tie.Need-enum-told
 enum-told c = search rules
-
-enum-told-2 : tie.Need-enum-told-2
-enum-told-2 c = search rules
 
 returns : tie.Need-returns
 returns c = search rules
 
-needed-requires : tie.Need-needed-requires
-needed-requires c κs = search rules
+too-short-requires : tie.Need-too-short-requires
+too-short-requires c κs = search rules
 
 returns-2 : tie.Need-returns-2
 returns-2 c = search rules
@@ -30,4 +30,4 @@ returns-3 c = search rules
 pub fits-spec : {M : Type 1} → statement M
 fits-spec =
     tie.close
-    (tie.spec measure-requires enum-told enum-told-2 returns needed-requires returns-2 returns-3)
+    (tie.spec measure-requires enum-known-kept enum-told returns too-short-requires returns-2 returns-3)

@@ -34,8 +34,8 @@ enum-told-3 c = search rules
 returns-2 : tie.Need-returns-2
 returns-2 c = search rules
 
-needed-requires : tie.Need-needed-requires
-needed-requires c κs = search rules
+too-short-requires : tie.Need-too-short-requires
+too-short-requires c κs = search rules
 
 returns-3 : tie.Need-returns-3
 returns-3 c = search rules
@@ -62,7 +62,7 @@ translate-bucket-spec =
     enum-known-measured
     enum-told-3
     returns-2
-    needed-requires
+    too-short-requires
     returns-3
     put-entries-requires
     same-length
