@@ -25,7 +25,7 @@ fn too_long(prefix: &[u8], new_prefix: &[u8]) -> bool
 }
 
 // TranslateBucket: the entries whose key begins with the prefix, in order, key changed and number the same, at the head of dest.
-// Answers the count kept. Refuses 1, 2, 8 and 10.
+// Answers the count kept, which is what dest must have room for. Refuses 1, 2, 8 and 10.
 pub fn translate_bucket(bucket: &[u8], prefix: &[u8], new_prefix: &[u8], dest: &mut [u8]) -> Answer
     ensures answered { λ r. ⌜ r ≡ translateBucketAnswer (now (bucket .entry)) (now (prefix .entry)) (now («new_prefix» .entry)) (now (dest .entry)) ⌝ }
     ensures written { λ r. ⌜ now (dest .exit) ≡ translateBucketLeaves (now (bucket .entry)) (now (prefix .entry)) (now («new_prefix» .entry)) (now (dest .entry)) ⌝ }
