@@ -1,10 +1,13 @@
--- The sixteen rows hold, T's list is the one in document 01, T's pivots are renamed, 4 comes before 5, what a bucket's destination must hold, and a pivot is put into T.
+-- The sixteen rows hold, T's list is the one in document 01, T's pivots are renamed, 4 comes before 5, what a bucket's destination must hold and whether it will fit, and a pivot is put into T.
 use mathlib.Core.Path.{_≡_, refl}
 use mathlib.Core.List.{List, [], _∷_, _++_}
 use Prim.Native.Nat.{ℕ, _*_}
 use Rattle.model.specs.declared.Answer.{Answer}
 use Rattle.model.specs.declared.Answer.the-variants.{Value, Refused}
-use Rattle.model.specs.declared.Refusal.the-variants.{EmptyPrefix, OutOfRange, TooLong, NoRoom, AlreadyPivot}
+use Rattle.model.specs.declared.Decided.{Decided}
+use Rattle.model.specs.declared.Decided.the-variants.{Yes, No}
+use Rattle.model.specs.declared.Decided.the-variants as decided
+use Rattle.model.specs.declared.Refusal.the-variants.{Malformed, EmptyPrefix, OutOfRange, TooLong, NoRoom, AlreadyPivot}
 use Rattle.model.specs.keys.Key.{Key, changePrefix, IsPrefix}
 use Rattle.model.specs.keys.Order.{key, lteKey, lte, lastPlace, LargestLte, LargestLt}
 use Rattle.model.specs.ranges.RangePrefix.{lcpright, lcp, PivotLcp}
@@ -22,7 +25,7 @@ use Rattle.model.specs.calls.TranslationCalls.{translateKeyAnswer}
 use Rattle.model.specs.calls.InsertionCalls.{insertAnswer}
 use Rattle.model.specs.calls.RenamingCalls.{pivotsAnswer}
 use Rattle.model.specs.buckets.Bucket.{Entry, entryBytes, entries, entryOf, encodeEntry, encodeBucket, TranslateBucket}
-use Rattle.model.specs.calls.BucketCalls.{notEntryCount, entriesRead, bucketCauses, neededBytes, translateBucketAnswer}
+use Rattle.model.specs.calls.BucketCalls.{notEntryCount, entriesRead, bucketCauses, neededBytes, translateBucketAnswer, willFitAnswer}
 use Rattle.model.specs.list.ShelfList.{header, dash, digit, decimal, hex, keyText, elementText, edgeText, slotLine, slotLines, tableText}
 use Rattle.model.specs.list.ShelfList.{listPivots, listEdges, notListSize, listCauses, shelfList}
 use Rattle.model.specs.Rows.{AllHold, rows, pivotsT, edgesT, inputT, linesT}
@@ -50,13 +53,25 @@ four-before-five = refl
 abbrev pub entryOne : Key → Entry
 entryOne k = record { key = k; number = 0 ∷ 0 ∷ 0 ∷ 1 ∷ [] }
 
+abbrev pub threeEntries : List ℕ
+threeEntries = encodeBucket (entryOne (0x42 ∷ []) ∷ entryOne (0x41 ∷ 0x35 ∷ []) ∷ entryOne (0x41 ∷ 0x30 ∷ []) ∷ [])
+
 abbrev pub threeRenamed : Key → Key → List ℕ → Answer
-threeRenamed p q d = translateBucketAnswer (encodeBucket (entryOne (0x42 ∷ []) ∷ entryOne (0x41 ∷ 0x35 ∷ []) ∷ entryOne (0x41 ∷ 0x30 ∷ []) ∷ [])) p q d
+threeRenamed p q d = translateBucketAnswer threeEntries p q d
 
 pub room-of-three : (threeRenamed (0x41 ∷ []) (0x43 ∷ []) (zeros 139) ≡ Refused NoRoom) × (threeRenamed (0x41 ∷ []) (0x43 ∷ []) (zeros 140) ≡ Value 2)
     × (threeRenamed (0x44 ∷ []) (0x43 ∷ []) [] ≡ Value 0) × (threeRenamed (0x41 ∷ []) (zeros 64) [] ≡ Refused TooLong)
 unfolding outcome bucketCauses notEntryCount entriesRead neededBytes entryBytes entries entryOf pieces encodeBucket encodeEntry joined recordOf reading fieldReading lengthField allZero keyBytes all IsPrefix changePrefix TranslateBucket
 room-of-three = (refl, refl, refl, refl)
+
+-- and the question whether they will fit says so; a prefix of 65 bytes it refuses
+abbrev pub threeFit : Key → Key → ℕ → Decided
+threeFit p q n = willFitAnswer threeEntries p q n
+
+pub fit-of-three : (threeFit (0x41 ∷ []) (0x43 ∷ []) 139 ≡ No) × (threeFit (0x41 ∷ []) (0x43 ∷ []) 140 ≡ Yes) × (threeFit (0x44 ∷ []) (0x43 ∷ []) 0 ≡ Yes)
+    × (threeFit (0x41 ∷ []) (zeros 64) 140 ≡ No) × (threeFit (0x41 ∷ []) (zeros 65) 140 ≡ decided.Refused Malformed)
+unfolding outcome bucketCauses notEntryCount entriesRead neededBytes entryBytes entries entryOf pieces encodeBucket encodeEntry joined recordOf reading fieldReading lengthField allZero keyBytes all IsPrefix changePrefix TranslateBucket
+fit-of-three = (refl, refl, refl, refl, refl)
 
 -- T with 41 31 put in, as FORMAT has it; its last pivot is refused with 11, and what is above it with 5
 abbrev pub insertsT : Key → List ℕ → List ℕ → Answer

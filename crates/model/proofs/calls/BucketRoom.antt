@@ -3,9 +3,9 @@ use mathlib.Core.Path.{_≡_, refl, sym, _∙_}
 use mathlib.Core.Bool.{Bool, true, false, cond, not, _||_, true≢false}
 use mathlib.Core.List.{List, [], _∷_, _++_}
 use mathlib.Core.Option.{none, some}
-use Prim.Native.Nat.{ℕ, _*_}
+use Prim.Native.Nat.{ℕ, _*_, _≤_}
 use native.Mathlib.Omega.{arith}
-use borrow.Author.Tests.{not-false, ltb-true, lt-ltb}
+use borrow.Author.Tests.{not-false, ltb-true, lt-ltb, le-ltb}
 use lib.Dec.{ltb}
 use lib.ListN.{length}
 use Rattle.model.specs.declared.Refusal.{Refusal}
@@ -20,7 +20,7 @@ use Rattle.model.specs.calls.KeyCalls.{noRoom}
 use Rattle.model.specs.calls.BucketCalls.{bucketCauses, newBucket, neededBytes, bucketLong, bucketFull, renameCauses}
 use Rattle.model.specs.calls.BucketCalls.{translateBucketCauses, translateBucketAnswer, translateBucketLeaves, willFitAnswer}
 use Rattle.model.proofs.calls.Refusals.{after, later, accepted, value-is, refused-by, none-here, none-before, none-after}
-use Rattle.model.proofs.calls.BucketCalls.{kept-sized}
+use Rattle.model.proofs.calls.BucketCalls.{bucket-count, bucket-whole, kept-sized}
 use Rattle.model.proofs.buckets.Entries.{length-encodeBucket}
 use Rattle.model.proofs.buckets.Bucket.{translated-wft}
 
@@ -40,6 +40,14 @@ module _ (l : List ℕ) (p q : Key) (h : first (renameCauses l p q) ≡ none) (s
       let e = cond (bucketFull l p q (length d)) (answers.Refused NoRoom) n in
       rw (← needed-written)
       (sym (after answers.Refused n e (renameCauses l p q) _ h (later answers.Refused n e (bucketLong l p q) TooLong ((bucketFull l p q (length d) ⇒ NoRoom) ∷ []) s refl)))
+
+  -- one as long as the bucket is always enough
+  pub bucket-enough : (d : List ℕ) → length l ≤ length d → translateBucketAnswer l p q d ≡ answers.Value (length (newBucket l p q))
+  unfolding neededBytes
+  bucket-enough d j =
+      let w = translated-wft (entries l) p q 0 (omega arith) .atMost in
+      let k : length (encodeBucket (newBucket l p q)) ≤ length d = omega (arith, needed-written, bucket-count _ l h, bucket-whole _ l h) in
+      rw (le-ltb (length d) (length (encodeBucket (newBucket l p q))) k) at (by-room d)
 
 -- where n entries are kept, a destination that holds n is taken, and any shorter one is 10
 pub room-of-kept : (l : List ℕ) (p q : Key) (d : List ℕ) (n : ℕ) → translateBucketAnswer l p q d ≡ answers.Value n
@@ -65,6 +73,10 @@ wholeCauses l p q d = renameCauses l p q ++ (bucketLong l p q ⇒ TooLong) ∷ (
 -- and the answer to the question
 abbrev wholeFit : List ℕ → Key → Key → ℕ → Decided
 wholeFit l p q n = decision (renameCauses l p q) (not (bucketLong l p q || wholeFull l n))
+
+-- that need was the bucket's own length
+pub whole-is : (l : List ℕ) (p q : Key) (n : ℕ) → first (renameCauses l p q) ≡ none → wholeFull l n ≡ ltb n (length l)
+whole-is l p q n h = let e : length (entries l) * entrySize ≡ length l = omega (arith, bucket-count _ l h, bucket-whole _ l h) in rw e
 
 -- a last cause that applies less often changes the outcome only where it made it
 last-cause : {A : Type 0} (f : Refusal → A) (v : A) (cs : List Cause) (b c : Bool) (r : Refusal) → (b ≡ true → c ≡ true) → (first (cs ++ (c ⇒ r) ∷ []) ≡ some r → ⊥)
