@@ -13,6 +13,7 @@ mod tell;
 pub use of_buckets::jd_translate_bucket;
 pub use of_buckets::jd_translate_bucket_will_fit;
 pub use of_cuts::jd_insert_pivot;
+pub use of_cuts::jd_join;
 pub use of_cuts::jd_split_left;
 pub use of_cuts::jd_split_right;
 pub use of_cuts::jd_translate_key;

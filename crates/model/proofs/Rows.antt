@@ -1,4 +1,4 @@
--- The sixteen rows hold, T's list is the one in document 01, T's pivots are renamed, 4 comes before 5, what a bucket's destination must hold and whether it will fit, and a pivot is put into T.
+-- The sixteen rows hold, T's list is the one in document 01, T's pivots are renamed, 4 comes before 5, what a bucket's destination must hold and whether it will fit, a pivot is put into T, and T's halves are joined.
 use mathlib.Core.Path.{_≡_, refl}
 use mathlib.Core.List.{List, [], _∷_, _++_}
 use Prim.Native.Nat.{ℕ, _*_}
@@ -7,22 +7,24 @@ use Rattle.model.specs.declared.Answer.the-variants.{Value, Refused}
 use Rattle.model.specs.declared.Decided.{Decided}
 use Rattle.model.specs.declared.Decided.the-variants.{Yes, No}
 use Rattle.model.specs.declared.Decided.the-variants as decided
-use Rattle.model.specs.declared.Refusal.the-variants.{Malformed, EmptyPrefix, OutOfRange, TooLong, NoRoom, AlreadyPivot}
+use Rattle.model.specs.declared.Refusal.the-variants.{Malformed, Unsorted, EmptyPrefix, OutOfRange, TooLong, NoRoom, AlreadyPivot, NotMeeting}
 use Rattle.model.specs.keys.Key.{Key, changePrefix, IsPrefix}
-use Rattle.model.specs.keys.Order.{key, lteKey, lte, lastPlace, LargestLte, LargestLt}
+use Rattle.model.specs.keys.Order.{key, max, lteKey, lte, lastPlace, LargestLte, LargestLt}
 use Rattle.model.specs.ranges.RangePrefix.{lcpright, lcp, PivotLcp}
 use Rattle.model.specs.ranges.UpperBound.{raisedAt, uncommonFrom, ShortestUncommonPrefix}
 use Rattle.model.specs.records.Record.{edge, noEdge, lengthField, allZero, fieldReading, reading, keyBytes, element, edgeOf, recordOf, encode, encodeEdge}
 use Rattle.model.specs.records.Record.{recordSize, zeros, pieces, joined, records, elements, edges, encodeAll, encodeEdges}
-use Rattle.model.specs.tables.Tables.{all, risesFrom, IsStrictlySorted, edgesFit, WFEdges, ContainsRange, isPivot, Route, CutoffForLeft, CutoffForRight}
+use Rattle.model.specs.tables.Tables.{PivotTable, EdgeTable, all, risesFrom, IsStrictlySorted, edgesFit, WFEdges, ContainsRange, isPivot, Route, CutoffForLeft, CutoffForRight}
 use Rattle.model.specs.cuts.Cuts.{SplitLeft, SplitRight, cutEdge, edgeWithin, SplitLeftEdges, SplitRightEdges}
 use Rattle.model.specs.cuts.Insertion.{InsertPivot, InsertPivotEdges}
+use Rattle.model.specs.cuts.Join.{notMeeting, JoinPivots, JoinEdges}
 use Rattle.model.specs.translation.PrefixSet.{RevPrefixSet, ApplyPrefixSet, ComposePrefixSet}
 use Rattle.model.specs.translation.Renaming.{TranslateElement, translateRight, TranslatePivotPairInternal, TranslatePivots}
-use Rattle.model.specs.calls.Refusals.{outcome}
+use Rattle.model.specs.calls.Refusals.{outcome, paired}
 use Rattle.model.specs.calls.TableCalls.{notPivotCount, notEdgeCount, pivotsRead, edgesRead, pivotCauses, tableCauses}
 use Rattle.model.specs.calls.TranslationCalls.{translateKeyAnswer}
 use Rattle.model.specs.calls.InsertionCalls.{insertAnswer}
+use Rattle.model.specs.calls.JoinCalls.{joinAnswer}
 use Rattle.model.specs.calls.RenamingCalls.{pivotsAnswer}
 use Rattle.model.specs.buckets.Bucket.{Entry, entryBytes, entries, entryOf, encodeEntry, encodeBucket, TranslateBucket}
 use Rattle.model.specs.calls.BucketCalls.{notEntryCount, entriesRead, bucketCauses, neededBytes, translateBucketAnswer, willFitAnswer}
@@ -83,3 +85,28 @@ pub insertion-into-T : (InsertPivot pivotsT 1 (0x41 ∷ 0x31 ∷ []) ≡ key (0x
     × (insertsT (0x42 ∷ []) [] [] ≡ Refused AlreadyPivot) × (insertsT (0x42 ∷ 0x00 ∷ []) [] [] ≡ Refused OutOfRange)
 unfolding outcome tableCauses pivotCauses notPivotCount notEdgeCount pivotsRead edgesRead records pieces elements edges encodeAll encodeEdges encode encodeEdge recordOf joined reading fieldReading lengthField allZero element edgeOf keyBytes IsStrictlySorted risesFrom lte lteKey all WFEdges edgesFit PivotLcp lcp lcpright ContainsRange isPivot lastPlace LargestLte Route InsertPivot InsertPivotEdges edgeWithin cutEdge changePrefix
 insertion-into-T = (refl, refl, refl, refl, refl, refl)
+
+-- T's two slots as tables, joined, are T, as FORMAT has it; the other way round, and where the first ends with max, they don't meet
+abbrev pub joinsOf : PivotTable → EdgeTable → PivotTable → EdgeTable → List ℕ → List ℕ → Answer
+joinsOf pt et qt ft dp de = joinAnswer (encodeAll pt) (encodeEdges et) (encodeAll qt) (encodeEdges ft) dp de
+
+abbrev pub firstT : PivotTable
+firstT = key (0x41 ∷ 0x30 ∷ []) ∷ key (0x41 ∷ 0x35 ∷ []) ∷ []
+
+abbrev pub secondT : PivotTable
+secondT = key (0x41 ∷ 0x35 ∷ []) ∷ key (0x42 ∷ []) ∷ []
+
+pub join-of-T : (JoinPivots firstT secondT ≡ pivotsT) × (JoinEdges (edge (0x43 ∷ []) ∷ []) (noEdge ∷ []) ≡ edgesT)
+    × (joinsOf firstT (edge (0x43 ∷ []) ∷ []) secondT (noEdge ∷ []) (zeros 198) (zeros 132) ≡ Value 3)
+    × (joinsOf firstT (edge (0x43 ∷ []) ∷ []) secondT (noEdge ∷ []) (zeros 197) (zeros 132) ≡ Refused NoRoom)
+    × (joinsOf firstT (edge (0x43 ∷ []) ∷ []) secondT (noEdge ∷ []) (zeros 198) (zeros 131) ≡ Refused NoRoom)
+    × (joinsOf secondT (noEdge ∷ []) firstT (edge (0x43 ∷ []) ∷ []) [] [] ≡ Refused NotMeeting)
+    × (joinsOf (key (0x41 ∷ []) ∷ max ∷ []) (noEdge ∷ []) firstT (noEdge ∷ []) [] [] ≡ Refused NotMeeting)
+unfolding outcome paired tableCauses pivotCauses notPivotCount notEdgeCount pivotsRead edgesRead records pieces elements edges encodeAll encodeEdges encode encodeEdge recordOf joined reading fieldReading lengthField allZero element edgeOf keyBytes IsStrictlySorted risesFrom lte lteKey all WFEdges edgesFit PivotLcp lcp lcpright notMeeting JoinPivots JoinEdges
+join-of-T = (refl, refl, refl, refl, refl, refl, refl)
+
+-- of both tables the smallest number: 3 of the first gives way to 2 of the second, which begins with max, and 4 of the first to 3 of the second
+pub smallest-of-both : (joinsOf (key (0x41 ∷ []) ∷ key [] ∷ []) (noEdge ∷ []) (max ∷ key [] ∷ []) (noEdge ∷ []) [] [] ≡ Refused Malformed)
+    × (joinsOf (key (0x41 ∷ []) ∷ key (0x43 ∷ []) ∷ []) (edge [] ∷ []) (key (0x43 ∷ []) ∷ key [] ∷ []) (noEdge ∷ []) [] [] ≡ Refused Unsorted)
+unfolding outcome paired tableCauses pivotCauses notPivotCount notEdgeCount pivotsRead edgesRead records pieces elements edges encodeAll encodeEdges encode encodeEdge recordOf joined reading fieldReading lengthField allZero element edgeOf keyBytes IsStrictlySorted risesFrom lte lteKey all WFEdges edgesFit PivotLcp lcp lcpright notMeeting JoinPivots JoinEdges
+smallest-of-both = (refl, refl)

@@ -1,8 +1,10 @@
 pub mod Refusals
 pub mod TableCalls
+pub mod TableAnswers
 pub mod KeyCalls
 pub mod CutCalls
 pub mod InsertionCalls
+pub mod JoinCalls
 pub mod Writing
 pub mod WrittenTables
 pub mod PairCalls

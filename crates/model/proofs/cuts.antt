@@ -5,6 +5,7 @@ pub mod CutEdges
 pub mod SplitEdges
 pub mod Preserved
 pub mod Meeting
+pub mod Join
 pub mod PlainCut
 pub mod Sides
 pub mod Ends
@@ -16,3 +17,5 @@ pub mod TwoOrders
 pub mod LongInsertion
 pub mod TakenInsertion
 pub mod Inserted
+pub mod Joined
+pub mod Rejoined

@@ -3,6 +3,7 @@ pub mod KeyCalls
 pub mod TableCalls
 pub mod CutCalls
 pub mod InsertionCalls
+pub mod JoinCalls
 pub mod PairCalls
 pub mod TranslationCalls
 pub mod PairRecordCalls

@@ -28,6 +28,7 @@ pub enum Refusal {
     NoRoom,
     AlreadyPivot,
     TooManyPivots,
+    NotMeeting,
 }
 
 // What a call answers whose result is a length, a place or a count.

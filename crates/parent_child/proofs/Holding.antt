@@ -2,7 +2,7 @@
 use mathlib.Core.Path.{_≡_, sym, _∙_}
 use mathlib.Core.Bool.{Bool, true, false}
 use mathlib.Core.List.{List}
-use Prim.Native.Nat.{ℕ, _-_, _/_, _≤_}
+use Prim.Native.Nat.{ℕ, _-_, _/_}
 use native.Mathlib.Omega.{arith}
 use borrow.Author.Tests.{not-true, not-false}
 use lib.ListN.{length}
@@ -13,18 +13,14 @@ use Rattle.model.specs.records.Record.{element, elements}
 use Rattle.model.specs.inner.Places.{recordAt}
 use Rattle.model.specs.tables.Tables.{pivotAt, lastPivot, WFPivots, ContainsRange}
 use Rattle.model.specs.calls.Refusals.{yesOrNo}
-use Rattle.model.proofs.tables.Routing.{wf-count}
-use Rattle.model.proofs.calls.TableCalls.{length-elements, element-at}
+use Rattle.model.proofs.calls.TableCalls.{element-at}
+use Rattle.model.proofs.calls.PivotKeys.{last-counted, last-element}
 
 module _ (c : List ℕ) (wf : WFPivots (elements c) ≡ true) where
-  -- there is a last record
-  pub counted : 1 ≤ length c / 66
-  counted = omega (arith, wf-count (elements c) wf, length-elements c)
-
   module _ (l r : Element) (a : List ℕ) (t : Bool) (e : a ≡ recordAt c 0) (f : t ≡ lt l (element a)) where
     -- the table begins with its first record
     begins-at : lte (pivotAt (elements c) 0) l ≡ lte (element a) l
-    begins-at = rw (e, element-at c 0 (omega (arith, counted)))
+    begins-at = rw (e, element-at c 0 (omega (arith, last-counted c wf)))
 
     -- the range begins before the table
     pub begins-before : t ≡ true → No ≡ yesOrNo (ContainsRange (elements c) l r)
@@ -38,7 +34,7 @@ module _ (c : List ℕ) (wf : WFPivots (elements c) ≡ true) where
 
       -- the table ends with its last record
       last-is : lastPivot (elements c) ≡ element b
-      last-is = rw (g, length-elements c) (element-at c (length c / 66 - 1) (omega (arith, counted)))
+      last-is = rw g (last-element c wf)
 
       -- the range ends after the table
       pub ends-after : u ≡ true → No ≡ yesOrNo (ContainsRange (elements c) l r)

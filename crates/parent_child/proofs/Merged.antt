@@ -10,12 +10,13 @@ use Rattle.model.specs.declared.Answer.{Answer}
 use Rattle.model.specs.declared.Answer.the-variants.{Value, Refused}
 use Rattle.model.specs.records.Record.{records, elements}
 use Rattle.model.specs.tables.Tables.{IsStrictlySorted, WFPivots}
-use Rattle.model.specs.calls.Refusals.{_⇒_, outcome, first, answer}
+use Rattle.model.specs.calls.Refusals.{_⇒_, outcome, paired, first, answer}
 use Rattle.model.specs.calls.TableCalls.{notPivotCount, notEdgeCount, pivotsRead, edgesRead, edgesStand, pivotCauses, tableCauses}
 use Rattle.model.specs.calls.ParentChildCalls.{threeTablesCauses}
 use Rattle.model.proofs.calls.TableCalls.{causes-wf}
 use Rattle.refusals.specs.Earlier.{earlier}
-use Rattle.refusals.proofs.InStep.{rising, inStep, paired, paired-earlier, paired-none, either-of}
+use Rattle.model.proofs.calls.Refusals.{paired-none}
+use Rattle.refusals.proofs.InStep.{rising, inStep, told-earlier, either-of}
 
 module _ (p e c : List ℕ) where
   -- the causes of all three tables are those of the parent and of the child
@@ -36,7 +37,7 @@ module _ (p e c : List ℕ) where
   pub checked : (x a b : Answer) (m n : ℕ) → a ≡ answer (tableCauses false false p e) m → b ≡ answer (pivotCauses false false c) n
       → x ≡ earlier a b → x ≡ answer (threeTablesCauses p e c) m
   checked x a b m n f g h =
-      h ∙ rw (f, g) (paired-earlier (tableCauses false false p e) (pivotCauses false false c) m n in-step) ∙ merged Refused (Value m)
+      told-earlier (tableCauses false false p e) (pivotCauses false false c) m n x a b in-step f g h ∙ merged Refused (Value m)
 
   module _ (h : first (threeTablesCauses p e c) ≡ none) where
     -- where none of them applies, neither list has one

@@ -1,8 +1,7 @@
 -- The causes of two arguments, each listed by its numbers, in one list by their numbers: its answer is the earlier of the two answers.
-use mathlib.Core.Path.{_≡_, refl, sym}
+use mathlib.Core.Path.{_≡_, refl, sym, _∙_}
 use mathlib.Core.Bool.{Bool, true, false, cond, _&&_, _||_}
 use mathlib.Core.List.{List, [], _∷_}
-use mathlib.Core.Option.{none}
 use Prim.Native.Nat.{ℕ, suc, _≤_, _<_}
 use native.Mathlib.Omega.{arith}
 use borrow.Author.Tests.{lt-ltb, le-ltb, leb-true, eqb-true}
@@ -10,8 +9,7 @@ use lib.Dec.{eqb, leb}
 use Rattle.model.specs.declared.Refusal.{Refusal}
 use Rattle.model.specs.declared.Answer.{Answer}
 use Rattle.model.specs.declared.Answer.the-variants.{Value, Refused}
-use Rattle.model.specs.calls.Refusals.{number, Cause, _⇒_, outcome, first, answer}
-use Rattle.model.proofs.calls.Refusals.{none-here, none-later}
+use Rattle.model.specs.calls.Refusals.{number, Cause, _⇒_, outcome, paired, answer}
 use Rattle.model.proofs.keys.Key.{both}
 use Rattle.refusals.specs.Earlier.{earlier}
 
@@ -56,12 +54,6 @@ inStep [] ds = true
 inStep (c ∷ cs) [] = true
 inStep ((a ⇒ r) ∷ cs) ((b ⇒ s) ∷ ds) = eqb (number r) (number s) && rising (suc (number r)) cs && rising (number r) ds && inStep cs ds
 
--- both lists in one, place by place
-unfoldable pub paired : List Cause → List Cause → List Cause
-paired [] ds = ds
-paired (c ∷ cs) [] = c ∷ cs
-paired (c ∷ cs) (d ∷ ds) = c ∷ d ∷ paired cs ds
-
 -- a refusal whose number is not above those of a list comes before the list's
 first-before : (r : Refusal) (ds : List Cause) (n : ℕ) → rising (number r) ds ≡ true → earlier (Refused r) (answer ds n) ≡ Refused r
 unfolding earlier outcome rising
@@ -86,7 +78,7 @@ value-first m n ((true ⇒ r) ∷ ds) = refl
 value-first m n ((false ⇒ r) ∷ ds) = value-first m n ds
 
 -- the answer of both lists is the earlier of the two answers
-pub paired-earlier : (cs ds : List Cause) (m n : ℕ) → inStep cs ds ≡ true → earlier (answer cs m) (answer ds n) ≡ answer (paired cs ds) m
+paired-earlier : (cs ds : List Cause) (m n : ℕ) → inStep cs ds ≡ true → earlier (answer cs m) (answer ds n) ≡ answer (paired cs ds) m
 unfolding earlier outcome inStep paired
 paired-earlier [] ds m n h = value-first m n ds
 paired-earlier (c ∷ cs) [] m n h = sym (none-second (answer (c ∷ cs) m) (Value n) n refl)
@@ -111,15 +103,10 @@ paired-earlier ((a ⇒ r) ∷ cs) ((b ⇒ s) ∷ ds) m n h = go a b (paired-earl
     go false true e = second-before s cs m (rw (← same) (u .1))
     go false false e = e
 
--- where none of both lists applies, none of either does
-pub paired-none : (cs ds : List Cause) → first (paired cs ds) ≡ none → (first cs ≡ none) × (first ds ≡ none)
-unfolding outcome paired
-paired-none [] ds h = (refl, h)
-paired-none (c ∷ cs) [] h = (h, refl)
-paired-none ((a ⇒ r) ∷ cs) ((b ⇒ s) ∷ ds) h =
-    let k = none-later a r ((b ⇒ s) ∷ paired cs ds) h in
-    let w = paired-none cs ds (none-later b s (paired cs ds) k) in
-    (rw (none-here a r ((b ⇒ s) ∷ paired cs ds) h) (w .0), rw (none-here b s (paired cs ds) k) (w .1))
+-- as a call that answers it tells
+pub told-earlier : (cs ds : List Cause) (m n : ℕ) (x a b : Answer) → inStep cs ds ≡ true → a ≡ answer cs m → b ≡ answer ds n → x ≡ earlier a b
+    → x ≡ answer (paired cs ds) m
+told-earlier cs ds m n x a b h f g e = e ∙ rw (f, g) (paired-earlier cs ds m n h)
 
 -- a cause of one argument or of a third, and beside it the same of a second, is that of any of them
 pub either-of : {A : Type 0} (f : Refusal → A) (v : A) (x y z : Bool) (r : Refusal) (cs ds : List Cause) → outcome f cs v ≡ outcome f ds v

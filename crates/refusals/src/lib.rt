@@ -22,6 +22,7 @@ pub fn refusal_number(r: Refusal) -> u32
         Refusal::NoRoom => 10,
         Refusal::AlreadyPivot => 11,
         Refusal::TooManyPivots => 12,
+        Refusal::NotMeeting => 13,
     }
 }
 

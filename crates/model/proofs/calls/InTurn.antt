@@ -1,14 +1,15 @@
 -- Each call lists its causes in the one order, so that "the first in the order" is the first of its list.
 use mathlib.Core.Path.{_≡_, refl}
-use mathlib.Core.Bool.{Bool, true, false}
+use mathlib.Core.Bool.{Bool, true}
 use mathlib.Core.List.{List}
 use Prim.Native.Nat.{ℕ, _+_}
-use Rattle.model.specs.declared.Refusal.the-variants.{OutOfRange, AlreadyPivot, TooManyPivots, NoSuchSlot, NotPrefix, TooLong, NotBelow, NoRoom}
-use Rattle.model.specs.calls.Refusals.{turn, inTurn}
+use Rattle.model.specs.declared.Refusal.the-variants.{EmptyPrefix, NotMeeting, OutOfRange, AlreadyPivot, TooManyPivots, NoSuchSlot, NotPrefix, TooLong, NotBelow, NoRoom}
+use Rattle.model.specs.calls.Refusals.{turn, paired, inTurn}
 use Rattle.model.specs.calls.KeyCalls.{compareCauses, pivotKeyCauses, entryKeyCauses, changePrefixCauses, pivotLcpCauses, uncommonPrefixCauses}
 use Rattle.model.specs.calls.TableCalls.{pivotCauses, tableCauses, containsRangeCauses, getKeyCauses, initPivotTableCauses, slotCauses}
 use Rattle.model.specs.calls.CutCalls.{cutCauses}
 use Rattle.model.specs.calls.InsertionCalls.{insertCauses}
+use Rattle.model.specs.calls.JoinCalls.{joinCauses}
 use Rattle.model.specs.calls.TranslationCalls.{translateKeyCauses}
 use Rattle.model.specs.calls.PairRecordCalls.{reversePairCauses, applyPairCauses, composePairsCauses, translatePairCauses}
 use Rattle.model.specs.calls.RenamingCalls.{pivotPairCauses, pivotsCauses, edgesCauses}
@@ -16,10 +17,10 @@ use Rattle.model.specs.calls.ParentChildCalls.{parentChildCauses}
 use Rattle.model.specs.calls.BucketCalls.{bucketCauses, translateBucketCauses}
 use Rattle.model.specs.list.ShelfList.{listCauses, listTableCauses}
 
--- "directly after 5", "directly after 11", and the others as they were
-pub directly-after : (turn OutOfRange + 1 ≡ turn AlreadyPivot) × (turn AlreadyPivot + 1 ≡ turn TooManyPivots) × (turn TooManyPivots + 1 ≡ turn NoSuchSlot)
+-- "after 4", "directly after 5", "directly after 11", and the others as they were
+pub directly-after : (turn EmptyPrefix + 1 ≡ turn NotMeeting) × (turn NotMeeting + 1 ≡ turn OutOfRange) × (turn OutOfRange + 1 ≡ turn AlreadyPivot) × (turn AlreadyPivot + 1 ≡ turn TooManyPivots) × (turn TooManyPivots + 1 ≡ turn NoSuchSlot)
     × (turn NoSuchSlot + 1 ≡ turn NotPrefix) × (turn NotPrefix + 1 ≡ turn TooLong) × (turn TooLong + 1 ≡ turn NotBelow) × (turn NotBelow + 1 ≡ turn NoRoom)
-directly-after = (refl, refl, refl, refl, refl, refl, refl)
+directly-after = (refl, refl, refl, refl, refl, refl, refl, refl, refl)
 
 module _ (a b c d e : List ℕ) where
   -- keys and records
@@ -37,6 +38,11 @@ module _ (a b c d e : List ℕ) where
   pub cuts-in-turn : (left : Bool) → (inTurn 0 (cutCauses left a b c d e) ≡ true) × (inTurn 0 (insertCauses a b c d e) ≡ true) × (inTurn 0 (translateKeyCauses a b c d) ≡ true)
   unfolding pivotCauses tableCauses
   cuts-in-turn left = (refl, refl, refl)
+
+  -- two tables put together
+  pub join-in-turn : (f : List ℕ) → inTurn 0 (joinCauses a b c d e f) ≡ true
+  unfolding paired pivotCauses tableCauses
+  join-in-turn f = refl
 
   -- pairs
   pub pairs-in-turn : (inTurn 0 (reversePairCauses a b) ≡ true) × (inTurn 0 (applyPairCauses a b c) ≡ true) × (inTurn 0 (composePairsCauses a b c) ≡ true)

@@ -1,8 +1,8 @@
--- The keys of a table by its bytes: each pivot but the last is the key that its record holds.
+-- The pivots of a table by its bytes: each but the last is the key that its record holds, and the last is what the last record stands for.
 use mathlib.Core.Path.{_≡_, refl, _∙_}
 use mathlib.Core.Bool.{Bool, true, false, cond, false≢true}
 use mathlib.Core.List.{List}
-use Prim.Native.Nat.{ℕ, _+_, _/_, _<_, _≤_}
+use Prim.Native.Nat.{ℕ, _+_, _-_, _/_, _<_, _≤_}
 use native.Mathlib.Omega.{arith}
 use borrow.Author.Tests.{leb-true}
 use lib.Dec.{eqb}
@@ -11,8 +11,8 @@ use Rattle.model.specs.keys.Key.{maxLen}
 use Rattle.model.specs.keys.Order.{key, max, isKey}
 use Rattle.model.specs.records.Record.{recordSize, maxMark, lengthField, keyBytes, element, elements}
 use Rattle.model.specs.inner.Places.{recordAt}
-use Rattle.model.specs.tables.Tables.{pivotAt, WFPivots}
-use Rattle.model.proofs.tables.Routing.{wf-keys, wf-short}
+use Rattle.model.specs.tables.Tables.{pivotAt, lastPivot, WFPivots}
+use Rattle.model.proofs.tables.Routing.{wf-keys, wf-short, wf-count}
 use Rattle.model.proofs.calls.TableCalls.{length-elements, element-at}
 
 -- a record that stands for a key stands for its key bytes
@@ -23,6 +23,15 @@ key-element r = go (eqb (lengthField r) maxMark)
     go : (t : Bool) → isKey (cond t max (key (keyBytes r))) ≡ true → cond t max (key (keyBytes r)) ≡ key (keyBytes r)
     go true h = absurd (false≢true h)
     go false h = refl
+
+module _ (p : List ℕ) (wf : WFPivots (elements p) ≡ true) where
+  -- there is a last record
+  pub last-counted : 1 ≤ length p / recordSize
+  last-counted = omega (arith, wf-count (elements p) wf, length-elements p)
+
+  -- the last pivot is what it stands for
+  pub last-element : lastPivot (elements p) ≡ element (recordAt p (length p / recordSize - 1))
+  last-element = rw (length-elements p) (element-at p (length p / recordSize - 1) (omega (arith, last-counted)))
 
 module _ (p : List ℕ) (wf : WFPivots (elements p) ≡ true) (i : ℕ) (h : i + 1 < length p / recordSize) where
   -- a pivot but the last is the key of its record

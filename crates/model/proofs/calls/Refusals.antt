@@ -15,7 +15,7 @@ use Rattle.model.specs.declared.Compared.{Compared}
 use Rattle.model.specs.declared.Compared.the-variants as compared
 use Rattle.model.specs.declared.Routed.{Routed}
 use Rattle.model.specs.declared.Routed.the-variants as routed
-use Rattle.model.specs.calls.Refusals.{number, Cause, _⇒_, outcome, first, answer, routing, slotAnswer}
+use Rattle.model.specs.calls.Refusals.{number, Cause, _⇒_, outcome, paired, first, answer, routing, slotAnswer}
 use Rattle.model.proofs.keys.Key.{both}
 
 module _ {A : Type 0} (f : Refusal → A) (v x : A) where
@@ -85,6 +85,11 @@ pub followed : {A : Type 0} (f : Refusal → A) (v : A) (cs cs′ ds : List Caus
     → outcome f (cs ++ ds) v ≡ outcome f (cs′ ++ ds) v
 followed f v cs cs′ ds h = rw (in-turn f v cs ds, in-turn f v cs′ ds, h)
 
+-- and so have lists with the same outcome that follow one
+pub following : {A : Type 0} (f : Refusal → A) (v : A) (cs ds ds′ : List Cause) → outcome f ds v ≡ outcome f ds′ v
+    → outcome f (cs ++ ds) v ≡ outcome f (cs ++ ds′) v
+following f v cs ds ds′ h = rw (in-turn f v cs ds, in-turn f v cs ds′, h)
+
 -- where the outcome is no refusal, no cause applies
 pub unrefused : {A : Type 0} (f : Refusal → A) (v : A) (cs : List Cause) → ((r : Refusal) → outcome f cs v ≡ f r → ⊥) → first cs ≡ none
 unrefused f v cs h = go (first cs) refl
@@ -121,6 +126,24 @@ module _ (cs ds : List Cause) (h : first (cs ++ ds) ≡ none) where
 
   pub none-after : first ds ≡ none
   none-after = neither .1
+
+-- of two lists in one none applies where none of either does
+pub none-paired : (cs ds : List Cause) → first cs ≡ none → first ds ≡ none → first (paired cs ds) ≡ none
+unfolding outcome paired
+none-paired [] ds g h = h
+none-paired (c ∷ cs) [] g h = g
+none-paired ((a ⇒ r) ∷ cs) ((b ⇒ s) ∷ ds) g h =
+    rw (none-here a r cs g, none-here b s ds h) (none-paired cs ds (none-later a r cs g) (none-later b s ds h))
+
+-- and only there
+pub paired-none : (cs ds : List Cause) → first (paired cs ds) ≡ none → (first cs ≡ none) × (first ds ≡ none)
+unfolding outcome paired
+paired-none [] ds h = (refl, h)
+paired-none (c ∷ cs) [] h = (h, refl)
+paired-none ((a ⇒ r) ∷ cs) ((b ⇒ s) ∷ ds) h =
+    let k = none-later a r ((b ⇒ s) ∷ paired cs ds) h in
+    let w = paired-none cs ds (none-later b s (paired cs ds) k) in
+    (rw (none-here a r ((b ⇒ s) ∷ paired cs ds) h) (w .0), rw (none-here b s (paired cs ds) k) (w .1))
 
 -- r is none of the causes
 abbrev pub lacks : Refusal → List Cause → Bool

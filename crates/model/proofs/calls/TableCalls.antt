@@ -113,9 +113,13 @@ module _ (shape wrong : Bool) (p : List ℕ) (h : first (pivotCauses shape wrong
   pub causes-wrong : wrong ≡ false
   causes-wrong = wrong-fails .0
 
+  -- the count of the pivots is right
+  pub causes-counted : notPivotCount p ≡ false
+  causes-counted = shape-fails .1
+
   counted : (eqb (length p % recordSize) 0 && leb minPivots (length p / recordSize) && leb (length p / recordSize) maxPivots) ≡ true
   unfolding notPivotCount
-  counted = not-false _ (shape-fails .1)
+  counted = not-false _ causes-counted
 
   -- the records are read as pivots
   pub causes-read : pivotsRead (records p) ≡ true

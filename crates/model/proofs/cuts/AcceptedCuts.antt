@@ -9,7 +9,7 @@ use lib.ListN.{length}
 use Rattle.model.specs.declared.Refusal.the-variants.{OutOfRange, TooLong}
 use Rattle.model.specs.declared.Answer.the-variants as answers
 use Rattle.model.specs.keys.Key.{Key, Bytes, maxLen, tooLong}
-use Rattle.model.specs.records.Record.{elements, encodeAll, encodeEdges}
+use Rattle.model.specs.records.Record.{elements, edges, encodeAll, encodeEdges}
 use Rattle.model.specs.tables.Tables.{all, shortEdge, WFPivots, BoundedKey}
 use Rattle.model.specs.cuts.Sides.{inside, Split}
 use Rattle.model.specs.calls.Refusals.{first}
@@ -22,6 +22,7 @@ use Rattle.model.proofs.calls.Refusals.{none-here, none-before, none-af
 use Rattle.model.proofs.tables.Routing.{wf-all-short}
 use Rattle.model.proofs.calls.TableCalls.{table-wrong, table-wf, table-bytes}
 use Rattle.model.proofs.calls.WrittenTables.{bytes-encodeAll}
+use Rattle.model.proofs.records.Records.{edges-encodeEdges}
 use Rattle.model.proofs.cuts.Sides.{split-bounded, split-bytes}
 use Rattle.model.proofs.cuts.Ends.{wrote-none}
 use Rattle.model.proofs.cuts.Inserted.{insert-leaves, insert-leaves-bytes, insert-bounded-bytes}
@@ -33,7 +34,7 @@ module _ (left : Bool) (k : Key) (d : Dests) (p e : List ℕ) (n : ℕ) (p′ e�
   no-cause = wrote-none (cutCauses left p e k (d .forPivots) (d .forEdges)) (length (cutPivots left p k)) _ _ n p′ e′ a
 
   -- so none of the table and the key
-  no-slot-cause : first (edgeSlotCauses p e k (inside left (elements p) k)) ≡ none
+  pub no-slot-cause : first (edgeSlotCauses p e k (inside left (elements p) k)) ≡ none
   no-slot-cause = none-before (edgeSlotCauses p e k (inside left (elements p) k)) _ no-cause
 
   -- nor of the table
@@ -71,6 +72,10 @@ module _ (left : Bool) (k : Key) (d : Dests) (p e : List ℕ) (n : ℕ) (p′ e�
 
     pub cut-wrote-edges : e′ ≡ encodeEdges (cutEdges left p e k)
     cut-wrote-edges = let w = was-written in cc
+
+    -- the edges left are those of the cut
+    pub cut-wrote-edge-table : edges e′ ≡ cutEdges left p e k
+    cut-wrote-edge-table = rw cut-wrote-edges (edges-encodeEdges (cutEdges left p e k) was-short)
 
     -- the pivots left are those of the cut
     pub cut-wrote-elements : elements p′ ≡ Split left (elements p) k

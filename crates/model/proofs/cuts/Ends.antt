@@ -10,14 +10,17 @@ use lib.ListN.{length}
 use Rattle.model.specs.declared.Refusal.{Refusal}
 use Rattle.model.specs.declared.Refusal.the-variants.{TooLong, NoRoom}
 use Rattle.model.specs.declared.Answer.the-variants as answers
-use Rattle.model.specs.records.Record.{recordSize, encodeAll, encodeEdges}
+use Rattle.model.specs.keys.Key.{Bytes}
+use Rattle.model.specs.records.Record.{recordSize, elements, edges, encodeAll, encodeEdges}
 use Rattle.model.specs.tables.Tables.{PivotTable, EdgeTable, all, shortEdge, WFPivots, WFEdges}
 use Rattle.model.specs.calls.Refusals.{Cause, outcome, first, answer, leaves, over}
 use Rattle.model.specs.calls.KeyCalls.{noRoom}
+use Rattle.model.specs.calls.TableCalls.{tableCauses}
 use Rattle.model.specs.calls.CutCalls.{writeCauses}
-use Rattle.model.specs.cuts.TwoOrders.{Dests, End, wrote, refused, accepted, endOf}
+use Rattle.model.specs.cuts.TwoOrders.{Dests, NoShorter, End, wrote, refused, accepted, endOf}
 use Rattle.model.proofs.Lists.{take-over}
 use Rattle.model.proofs.calls.Refusals.{refused-by, passed, unrefused}
+use Rattle.model.proofs.calls.TableCalls.{table-whole, table-edges-whole, table-edges-short, table-encode, table-encode-edges}
 use Rattle.model.proofs.tables.Routing.{wf-all-short}
 use Rattle.model.proofs.records.Records.{length-encodeAll, length-encodeEdges}
 use Rattle.model.proofs.cuts.CutEdges.{edges-say}
@@ -82,3 +85,11 @@ pub room-none : (pt : PivotTable) (et : EdgeTable) (d : Dests) → all shortEdge
 unfolding outcome
 room-none pt et d s f g =
     rw (s, le-ltb (length (d .forPivots)) (length pt * recordSize) f, le-ltb (length (d .forEdges)) (length et * recordSize) g)
+
+-- a table that is written in destinations no shorter than its bytes is its bytes
+pub ends-as-lent : (p e : List ℕ) (d : Dests) → first (tableCauses false false p e) ≡ none → Bytes p → Bytes e → NoShorter p e d
+    → endBy (all shortEdge (edges e)) (full (elements p) (edges e) d) (elements p) (edges e) ≡ wrote (length (elements p)) p e
+ends-as-lent p e d h b c n =
+    let f = le-ltb (length (d .forPivots)) (length (elements p) * recordSize) (omega (arith, n .pivots, table-whole false false p e h)) in
+    let g = le-ltb (length (d .forEdges)) (length (edges e) * recordSize) (omega (arith, n .edges, table-edges-whole false false p e h)) in
+    rw (table-edges-short false false p e h, f, g, table-encode false false p e h b, table-encode-edges false false p e h c)

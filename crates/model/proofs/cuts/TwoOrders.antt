@@ -15,11 +15,11 @@ use Rattle.model.specs.tables.Tables.{PivotTable, EdgeTable, pivotAt, la
 use Rattle.model.specs.cuts.Cuts.{plainCut, plainCutEdges}
 use Rattle.model.specs.calls.Refusals.{first}
 use Rattle.model.specs.calls.TableCalls.{tableCauses, wfEdgesAnswer}
-use Rattle.model.specs.cuts.TwoOrders.{Dests, End, refused, accepted, rightThenLeft, leftThenRight, plainEnd, Preserved, TwoOrders, Demand3}
-use Rattle.model.proofs.calls.Refusals.{unrefused}
+use Rattle.model.specs.cuts.TwoOrders.{Dests, NoShorter, End, refused, accepted, rightThenLeft, leftThenRight, plainEnd, Preserved, TwoOrders, Demand3}
 use Rattle.model.proofs.tables.Routing.{wf-all-short, contains-range-bounded}
 use Rattle.model.proofs.cuts.Ranges.{cutTo, cut-bounded}
 use Rattle.model.proofs.calls.TableCalls.{length-elements, length-edges, table-wf, table-most, table-edges, table-edges-short, table-bytes}
+use Rattle.model.proofs.calls.TableAnswers.{answered-yes}
 use Rattle.model.proofs.records.Records.{elements-encodeAll, edges-encodeEdges}
 use Rattle.model.proofs.cuts.PlainCut.{right-accepted, left-after-right, left-accepted, right-after-left, right-left, left-right, plain-wf, plain-most}
 use Rattle.model.proofs.cuts.PlainCut.{right-left-edges, left-right-edges, plain-edges-wf, plain-preserved, right-edges-short, left-edges-short}
@@ -29,22 +29,12 @@ use Rattle.model.proofs.cuts.Ends.{endBy, endWith}
 use Rattle.model.proofs.cuts.OneCut.{Roomy}
 use Rattle.model.proofs.cuts.OneOrder.{Order, order-ends, order-roomy}
 
--- a table that is answered to be well formed has none of the causes 1 to 4
-answered-yes : (p e : List ℕ) → wfEdgesAnswer p e ≡ decided.Yes → first (tableCauses false false p e) ≡ none
-answered-yes p e h =
-    unrefused decided.Refused decided.Yes (tableCauses false false p e) (λ r q. let z : _≡_ {A = ℕ} 0 1 = cc in absurd (omega arith))
-
 -- the keys from l up to, but without, r, are bounded in the plain cut
 plain-bounded : (pt : PivotTable) (l r k : Key) → lte (key l) (key k) ≡ true → lt (key k) (key r) ≡ true → BoundedKey (plainCut pt l r) k ≡ true
 unfolding plainCut cutTo
 plain-bounded pt l r k u v = rw (cut-bounded pt (key l) (key r) k, u) v
 
--- destinations no shorter than the table's own bytes
-pub record NoShorter (p e : List ℕ) (d : Dests) : Type 0 where
-  pub pivots : length p ≤ length (d .forPivots)
-  pub edges : length e ≤ length (d .forEdges)
-
--- have room for its records
+-- destinations no shorter than a table's bytes have room for its records
 no-shorter : (p e : List ℕ) (d : Dests) → NoShorter p e d → Roomy (elements p) (edges e) d
 no-shorter p e d n =
     record { pivots = omega (arith, n .pivots, length-elements p); edges = omega (arith, n .edges, length-edges e) }

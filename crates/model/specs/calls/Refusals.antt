@@ -7,7 +7,7 @@ use lib.Dec.{leb}
 use lib.IntN.{ℤ}
 use lib.ListN.{length, drop}
 use Rattle.model.specs.declared.Refusal.{Refusal}
-use Rattle.model.specs.declared.Refusal.the-variants.{Shape, Malformed, Unsorted, EmptyPrefix, OutOfRange, NoSuchSlot, NotPrefix, TooLong, NotBelow, NoRoom, AlreadyPivot, TooManyPivots}
+use Rattle.model.specs.declared.Refusal.the-variants.{Shape, Malformed, Unsorted, EmptyPrefix, OutOfRange, NoSuchSlot, NotPrefix, TooLong, NotBelow, NoRoom, AlreadyPivot, TooManyPivots, NotMeeting}
 use Rattle.model.specs.declared.Answer.{Answer}
 use Rattle.model.specs.declared.Answer.the-variants as answers
 use Rattle.model.specs.declared.Compared.{Compared}
@@ -18,7 +18,7 @@ use Rattle.model.specs.declared.Routed.{Routed}
 use Rattle.model.specs.declared.Routed.the-variants as routed
 
 infix 5 _⇒_
--- the numbers of the table "Refusals", and 11 and 12: "the key is already a pivot", "the table would pass 64 pivots"
+-- the numbers of the table "Refusals", and 11 to 13: "the key is already a pivot", "the table would pass 64 pivots", "the meeting pivots differ or are max"
 abbrev pub number : Refusal → ℕ
 number Shape = 1
 number Malformed = 2
@@ -32,21 +32,23 @@ number NotBelow = 9
 number NoRoom = 10
 number AlreadyPivot = 11
 number TooManyPivots = 12
+number NotMeeting = 13
 
--- the order of all causes: "directly after 5" comes 11, and "directly after 11" comes 12
+-- the order of all causes: "directly after 5" comes 11, "directly after 11" comes 12, and "after 4" 13
 abbrev pub turn : Refusal → ℕ
 turn Shape = 1
 turn Malformed = 2
 turn Unsorted = 3
 turn EmptyPrefix = 4
-turn OutOfRange = 5
-turn AlreadyPivot = 6
-turn TooManyPivots = 7
-turn NoSuchSlot = 8
-turn NotPrefix = 9
-turn TooLong = 10
-turn NotBelow = 11
-turn NoRoom = 12
+turn NotMeeting = 5
+turn OutOfRange = 6
+turn AlreadyPivot = 7
+turn TooManyPivots = 8
+turn NoSuchSlot = 9
+turn NotPrefix = 10
+turn TooLong = 11
+turn NotBelow = 12
+turn NoRoom = 13
 
 -- a cause: whether it applies, and what is answered then
 pub data Cause : Type 0 where
@@ -61,6 +63,12 @@ outcome refused ((applies ⇒ r) ∷ causes) value = cond applies (refused r) (o
 abbrev pub inTurn : ℕ → List Cause → Bool
 inTurn n [] = true
 inTurn n ((applies ⇒ r) ∷ causes) = leb n (turn r) && inTurn (turn r) causes
+
+-- "The smallest number that applies is answered", of two arguments whose causes are each listed by number: both lists in one, place by place
+unfoldable pub paired : List Cause → List Cause → List Cause
+paired [] ds = ds
+paired (c ∷ cs) [] = c ∷ cs
+paired (c ∷ cs) (d ∷ ds) = c ∷ d ∷ paired cs ds
 
 abbrev pub first : List Cause → Option Refusal
 first causes = outcome some causes none

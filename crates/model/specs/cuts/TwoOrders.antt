@@ -23,6 +23,11 @@ pub record Dests : Type 0 where
   pub forPivots : List ℕ
   pub forEdges : List ℕ
 
+-- they are no shorter than the bytes of p and e
+pub record NoShorter (p e : List ℕ) (d : Dests) : Type 0 where
+  pub pivots : length p ≤ length (d .forPivots)
+  pub edges : length e ≤ length (d .forEdges)
+
 -- where a cut or an order of two ends: accepted, with the count answered and the records written, or at a refusal
 pub data End : Type 0 where
   wrote : ℕ → List ℕ → List ℕ → End

@@ -1,10 +1,11 @@
 -- `parent_child::ask_range` meets its contract.
-use Rattle.parent_child.proofs.Holding.{counted, begins-before, ends-after, lies-in}
+use Rattle.parent_child.proofs.Holding.{begins-before, ends-after, lies-in}
+use Rattle.model.proofs.calls.PivotKeys.{last-counted}
 use borrow.Author.Needs.{needs}
 use Rattle.parent_child.proofs.slot.ask_range.Statement.{statement}
 use Rattle.parent_child.proofs.slot.ask_range.Tie as tie
 
-ruleset rules = (needs, counted, begins-before, ends-after, lies-in)
+ruleset rules = (needs, last-counted, begins-before, ends-after, lies-in)
 
 record-at-requires : tie.Need-record-at-requires
 record-at-requires c κs = search rules
