@@ -1,5 +1,6 @@
 -- The sixteen rows hold, T's list is the one in document 01, T's pivots are renamed, 4 comes before 5, what a bucket's destination must hold and whether it will fit, a pivot is put into T, and T's halves are joined.
 use mathlib.Core.Path.{_≡_, refl}
+use mathlib.Core.Bool.{true}
 use mathlib.Core.List.{List, [], _∷_, _++_}
 use Prim.Native.Nat.{ℕ, _*_}
 use Rattle.model.specs.declared.Answer.{Answer}
@@ -86,7 +87,7 @@ pub insertion-into-T : (InsertPivot pivotsT 1 (0x41 ∷ 0x31 ∷ []) ≡ key (0x
 unfolding outcome tableCauses pivotCauses notPivotCount notEdgeCount pivotsRead edgesRead records pieces elements edges encodeAll encodeEdges encode encodeEdge recordOf joined reading fieldReading lengthField allZero element edgeOf keyBytes IsStrictlySorted risesFrom lte lteKey all WFEdges edgesFit PivotLcp lcp lcpright ContainsRange isPivot lastPlace LargestLte Route InsertPivot InsertPivotEdges edgeWithin cutEdge changePrefix
 insertion-into-T = (refl, refl, refl, refl, refl, refl)
 
--- T's two slots as tables, joined, are T, as FORMAT has it; the other way round, and where the first ends with max, they don't meet
+-- T's two slots as tables, joined, are T, as FORMAT has it; the other way round, and where the first ends with max, they don't meet; the second may end with it
 abbrev pub joinsOf : PivotTable → EdgeTable → PivotTable → EdgeTable → List ℕ → List ℕ → Answer
 joinsOf pt et qt ft dp de = joinAnswer (encodeAll pt) (encodeEdges et) (encodeAll qt) (encodeEdges ft) dp de
 
@@ -102,8 +103,10 @@ pub join-of-T : (JoinPivots firstT secondT ≡ pivotsT) × (JoinEdges (edge (0x4
     × (joinsOf firstT (edge (0x43 ∷ []) ∷ []) secondT (noEdge ∷ []) (zeros 198) (zeros 131) ≡ Refused NoRoom)
     × (joinsOf secondT (noEdge ∷ []) firstT (edge (0x43 ∷ []) ∷ []) [] [] ≡ Refused NotMeeting)
     × (joinsOf (key (0x41 ∷ []) ∷ max ∷ []) (noEdge ∷ []) firstT (noEdge ∷ []) [] [] ≡ Refused NotMeeting)
+    × (joinsOf firstT (noEdge ∷ []) (key (0x41 ∷ 0x35 ∷ []) ∷ max ∷ []) (noEdge ∷ []) (zeros 198) (zeros 132) ≡ Value 3)
+    × (notMeeting (key (0x41 ∷ []) ∷ max ∷ []) (max ∷ []) ≡ true)
 unfolding outcome paired tableCauses pivotCauses notPivotCount notEdgeCount pivotsRead edgesRead records pieces elements edges encodeAll encodeEdges encode encodeEdge recordOf joined reading fieldReading lengthField allZero element edgeOf keyBytes IsStrictlySorted risesFrom lte lteKey all WFEdges edgesFit PivotLcp lcp lcpright notMeeting JoinPivots JoinEdges
-join-of-T = (refl, refl, refl, refl, refl, refl, refl)
+join-of-T = (refl, refl, refl, refl, refl, refl, refl, refl, refl)
 
 -- of both tables the smallest number: 3 of the first gives way to 2 of the second, which begins with max, and 4 of the first to 3 of the second
 pub smallest-of-both : (joinsOf (key (0x41 ∷ []) ∷ key [] ∷ []) (noEdge ∷ []) (max ∷ key [] ∷ []) (noEdge ∷ []) [] [] ≡ Refused Malformed)

@@ -19,7 +19,7 @@ use Rattle.model.specs.calls.InsertionCalls.{tooManyPivots}
 use Rattle.model.specs.calls.JoinCalls.{twoTablesCauses, joinedPivots, joinedEdges, meetingCauses}
 use Rattle.model.proofs.Lists.{all-append, all-parts}
 use Rattle.model.proofs.keys.Key.{both}
-use Rattle.model.proofs.keys.Order.{lte-refl, lte-antisym}
+use Rattle.model.proofs.keys.Order.{lte-refl, lte-antisym, refuted}
 use Rattle.model.proofs.records.Record.{length-encode}
 use Rattle.model.proofs.records.Records.{joined-append, joined-drop}
 use Rattle.model.proofs.tables.Routing.{wf-keys, wf-count, wf-all-short, get-key}
@@ -114,11 +114,23 @@ module _ (p e q f : List ℕ) (h : first (meetingCauses p e q f) ≡ none) where
   pub join-few : length (joinedPivots p q) ≤ maxPivots
   join-few = ltb-false maxPivots _ (none-here _ TooManyPivots [] (none-later _ NotMeeting _ rest))
 
--- of two tables that meet and have none of the causes 1 to 4 only 12 is left
-pub meeting-first : (p e q f : List ℕ) → first (tableCauses false false p e) ≡ none → first (tableCauses false false q f) ≡ none
-    → lastPivot (elements p) ≡ pivotAt (elements q) 0
-    → first (meetingCauses p e q f) ≡ first ((tooManyPivots (joinedPivots p q) ⇒ TooManyPivots) ∷ [])
-unfolding outcome notMeeting
-meeting-first p e q f a b m =
-    let t = none-paired (tableCauses false false p e) (tableCauses false false q f) a b in
-    sym (after some none _ (twoTablesCauses p e q f) _ t (rw (m, lte-refl (pivotAt (elements q) 0), second-begins p e q f t)))
+-- two tables that have none of the causes 1 to 4
+module _ (p e q f : List ℕ) (a : first (tableCauses false false p e) ≡ none) (b : first (tableCauses false false q f) ≡ none) where
+  both-tables : first (twoTablesCauses p e q f) ≡ none
+  both-tables = none-paired (tableCauses false false p e) (tableCauses false false q f) a b
+
+  -- where they meet, only 12 is left
+  pub meeting-first : lastPivot (elements p) ≡ pivotAt (elements q) 0
+      → first (meetingCauses p e q f) ≡ first ((tooManyPivots (joinedPivots p q) ⇒ TooManyPivots) ∷ [])
+  unfolding outcome notMeeting
+  meeting-first m =
+      sym (after some none _ (twoTablesCauses p e q f) _ both-tables (rw (m, lte-refl (pivotAt (elements q) 0), second-begins p e q f both-tables)))
+
+  -- where they don't, 13 is the first
+  pub apart-first : (lastPivot (elements p) ≡ pivotAt (elements q) 0 → ⊥) → first (meetingCauses p e q f) ≡ some NotMeeting
+  unfolding outcome notMeeting
+  apart-first n =
+      let x = lastPivot (elements p) in
+      let y = pivotAt (elements q) 0 in
+      let s = refuted (same x y) (λ m. let t = both _ _ m in n (lte-antisym x y (t .0) (t .1))) in
+      sym (after some none (some NotMeeting) (twoTablesCauses p e q f) _ both-tables (rw s))

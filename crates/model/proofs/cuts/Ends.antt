@@ -27,7 +27,7 @@ use Rattle.model.proofs.cuts.CutEdges.{edges-say}
 
 module _ (cs : List Cause) (n : ℕ) (w x dp de : List ℕ) where
   -- a call ends at the first cause that applies
-  ends-refused : (r : Refusal) → first cs ≡ some r → endOf (answer cs n) (leaves cs w dp) (leaves cs x de) ≡ refused r
+  pub ends-refused : (r : Refusal) → first cs ≡ some r → endOf (answer cs n) (leaves cs w dp) (leaves cs x de) ≡ refused r
   ends-refused r h = rw (sym (refused-by answers.Refused (answers.Value n) _ cs r h refl))
 
   -- or where it has written, at the heads of its destinations

@@ -2,35 +2,37 @@
 use mathlib.Core.Path.{_≡_, refl, sym, ap, subst, _∙_}
 use mathlib.Core.Logic.{_⊎_, inl, inr}
 use mathlib.Core.Bool.{Bool, true, false, cond, not, true≢false}
-use mathlib.Core.List.{List, _++_}
+use mathlib.Core.List.{List, [], _∷_, _++_}
 use mathlib.Core.Option.{none, some}
-use Prim.Native.Nat.{ℕ, _+_, _*_}
+use Prim.Native.Nat.{ℕ, _+_, _*_, _≤_, _<_}
 use native.Mathlib.Omega.{arith}
-use borrow.Author.Tests.{le-ltb, leb-true}
+use borrow.Author.Tests.{le-ltb, lt-ltb, leb-true}
 use lib.ListN.{length, drop}
-use Rattle.model.specs.declared.Refusal.the-variants.{NoRoom}
+use Rattle.model.specs.declared.Refusal.{Refusal}
+use Rattle.model.specs.declared.Refusal.the-variants.{NoRoom, TooManyPivots, NotMeeting}
 use Rattle.model.specs.declared.Decided.the-variants as decided
 use Rattle.model.specs.keys.Key.{Key, Bytes, maxLen, tooLong}
 use Rattle.model.specs.keys.Order.{key, BytesE, lte}
 use Rattle.model.specs.records.Record.{recordSize, elements, edges, encodeAll, encodeEdges}
-use Rattle.model.specs.tables.Tables.{PivotTable, EdgeTable, maxPivots, pivotAt, all, shortEdge, WFPivots, WFEdges, BytesT, BoundedKey, GetKey}
-use Rattle.model.specs.calls.Refusals.{outcome, first}
-use Rattle.model.specs.calls.TableCalls.{tableCauses, boundedKeyAnswer}
+use Rattle.model.specs.tables.Tables.{PivotTable, EdgeTable, maxPivots, pivotAt, lastPivot, all, shortEdge, WFPivots, WFEdges, BytesT, BoundedKey, GetKey}
+use Rattle.model.specs.calls.Refusals.{_⇒_, outcome, first}
+use Rattle.model.specs.calls.TableCalls.{tableCauses, wfEdgesAnswer, boundedKeyAnswer}
 use Rattle.model.specs.calls.CutCalls.{cutPivots, cutEdges, writeCauses}
+use Rattle.model.specs.calls.InsertionCalls.{tooManyPivots}
 use Rattle.model.specs.calls.JoinCalls.{joinedPivots, joinedEdges, meetingCauses, joinCauses}
 use Rattle.model.specs.cuts.TwoOrders.{Dests, NoShorter, End, wrote, refused, accepted, TranslatedAlike}
-use Rattle.model.specs.cuts.Joined.{join, OnlyIn, GivesBack, Joined, JoinKept, JoinTaken, Joins}
-use Rattle.model.proofs.calls.Refusals.{passed, after, none-before}
+use Rattle.model.specs.cuts.Joined.{join, OnlyIn, GivesBack, Joined, JoinKept, JoinTaken, JoinRefused, Joins}
+use Rattle.model.proofs.calls.Refusals.{passed, after, refused-first, none-before}
 use Rattle.model.proofs.calls.TableCalls.{table-bytes, table-wf}
 use Rattle.model.proofs.calls.TableAnswers.{answered-yes, bounded-says, says-bounded}
 use Rattle.model.proofs.calls.Writing.{short-room}
 use Rattle.model.proofs.calls.WrittenTables.{wf-table-causes}
 use Rattle.model.proofs.calls.Alike.{alike}
-use Rattle.model.proofs.calls.JoinCalls.{first-table, second-table, join-pivots-bytes, join-edges-bytes, join-edges-short, join-tables, join-joinable, join-few, meeting-first}
+use Rattle.model.proofs.calls.JoinCalls.{first-table, second-table, join-pivots-bytes, join-edges-bytes, join-edges-short, join-tables, join-joinable, join-few, meeting-first, apart-first}
 use Rattle.model.proofs.records.Records.{length-encodeAll, length-encodeEdges, elements-encodeAll, edges-encodeEdges}
 use Rattle.model.proofs.tables.Routing.{wf-all-short, wf-count, wf-short}
 use Rattle.model.proofs.cuts.Between.{bytes-at}
-use Rattle.model.proofs.cuts.Ends.{full, endBy, write-ends, wrote-none, ends-as-lent}
+use Rattle.model.proofs.cuts.Ends.{full, endBy, ends-refused, write-ends, wrote-none, ends-as-lent}
 use Rattle.model.proofs.cuts.OneCut.{Cuttable, cut-ends}
 use Rattle.model.proofs.cuts.Join.{join-count, Joinable, join-length, join-wf, join-edges-wf, join-bytes, join-inside, join-split, join-split-edges, join-first-bounded, join-second-bounded, join-preserved}
 
@@ -195,8 +197,27 @@ module _ (p e q f : List ℕ) (h : first (meetingCauses p e q f) ≡ none) where
 
 -- ---- the claim
 
+-- two tables that pass the check and meet
+module _ (p e q f : List ℕ) (y : wfEdgesAnswer p e ≡ decided.Yes) (z : wfEdgesAnswer q f ≡ decided.Yes) (m : lastPivot (elements p) ≡ pivotAt (elements q) 0) where
+  only-many : first (meetingCauses p e q f) ≡ first ((tooManyPivots (joinedPivots p q) ⇒ TooManyPivots) ∷ [])
+  only-many = meeting-first p e q f (answered-yes p e y) (answered-yes q f z) m
+
+  counted : length (joinedPivots p q) + 1 ≡ length (elements p) + length (elements q)
+  counted =
+      join-count (elements p) (elements q) (omega (arith, wf-count (elements q) (table-wf false false q f (answered-yes q f z))))
+
+  -- at most 64 pivots are no cause
+  few-none : length (elements p) + length (elements q) ≤ maxPivots + 1 → first (meetingCauses p e q f) ≡ none
+  unfolding outcome
+  few-none c = let n = counted in only-many ∙ rw (le-ltb maxPivots (length (joinedPivots p q)) (omega arith))
+
+  -- more are 12
+  many-first : maxPivots + 1 < length (elements p) + length (elements q) → first (meetingCauses p e q f) ≡ some TooManyPivots
+  unfolding outcome
+  many-first c = let n = counted in only-many ∙ rw (lt-ltb maxPivots (length (joinedPivots p q)) (omega arith))
+
 pub joins : Joins
-joins p e q f d bp be bq bf = (kept (join d p e q f) refl, taken)
+joins p e q f d bp be bq bf = (kept (join d p e q f) refl, taken, refusals)
   where
     kept : (x : End) → join d p e q f ≡ x → JoinKept p e q f x
     kept (refused r) a = tt
@@ -214,16 +235,14 @@ joins p e q f d bp be bq bf = (kept (join d p e q f) refl, taken)
             subst (JoinKept p e q f) w (leaves-joined p e q f h bp be bq bf)
 
     taken : JoinTaken p e q f d
-    taken y z m c = room-accepted p e q f h bp be bq bf d
-      where
-        a : first (tableCauses false false p e) ≡ none
-        a = answered-yes p e y
+    taken y z m c = room-accepted p e q f (few-none p e q f y z m c) bp be bq bf d
 
-        b : first (tableCauses false false q f) ≡ none
-        b = answered-yes q f z
+    ends-at : (r : Refusal) → first (meetingCauses p e q f) ≡ some r → join d p e q f ≡ refused r
+    ends-at r h = ends-refused _ _ _ _ _ _ r (sym (refused-first some none (some r) (meetingCauses p e q f) _ r h refl))
 
-        h : first (meetingCauses p e q f) ≡ none
-        h =
-            let n = wf-count (elements q) (table-wf false false q f b) in
-            let l = join-count (elements p) (elements q) (omega arith) in
-            meeting-first p e q f a b m ∙ unfold outcome in rw (le-ltb maxPivots (length (joinedPivots p q)) (omega arith))
+    refusals : JoinRefused p e q f d
+    refusals =
+        record {
+          apart = λ y z n. ends-at NotMeeting (apart-first p e q f (answered-yes p e y) (answered-yes q f z) n);
+          many = λ y z m c. ends-at TooManyPivots (many-first p e q f y z m c);
+        }

@@ -3,8 +3,9 @@ use mathlib.Core.Path.{_≡_}
 use mathlib.Core.Logic.{_⊎_}
 use mathlib.Core.Bool.{Bool, true, false}
 use mathlib.Core.List.{List, _++_}
-use Prim.Native.Nat.{ℕ, _+_, _≤_}
+use Prim.Native.Nat.{ℕ, _+_, _≤_, _<_}
 use lib.ListN.{length, drop}
+use Rattle.model.specs.declared.Refusal.the-variants.{TooManyPivots, NotMeeting}
 use Rattle.model.specs.declared.Decided.the-variants as decided
 use Rattle.model.specs.keys.Key.{Key, Bytes}
 use Rattle.model.specs.keys.Order.{key}
@@ -60,11 +61,18 @@ JoinTaken p e q f d =
     → NoShorter (p ++ drop recordSize q) (e ++ f) d
     → accepted (join d p e q f) ≡ true
 
+-- where both pass the check, it is refused with 13 if they don't meet, and if they do, with 12 where there are more than 64
+pub record JoinRefused (p e q f : List ℕ) (d : Dests) : Type 0 where
+  pub apart : wfEdgesAnswer p e ≡ decided.Yes → wfEdgesAnswer q f ≡ decided.Yes → (lastPivot (elements p) ≡ pivotAt (elements q) 0 → ⊥)
+      → join d p e q f ≡ refused NotMeeting
+  pub many : wfEdgesAnswer p e ≡ decided.Yes → wfEdgesAnswer q f ≡ decided.Yes → lastPivot (elements p) ≡ pivotAt (elements q) 0
+      → maxPivots + 1 < length (elements p) + length (elements q) → join d p e q f ≡ refused TooManyPivots
+
 -- for all pivots p and q and edges e and f lent, and all destinations
 abbrev pub Joins : Type 0
 Joins =
     (p e q f : List ℕ) (d : Dests) → Bytes p → Bytes e → Bytes q → Bytes f
-    → JoinKept p e q f (join d p e q f) × JoinTaken p e q f d
+    → JoinKept p e q f (join d p e q f) × JoinTaken p e q f d × JoinRefused p e q f d
 
 -- a join of l, x and r, y answers and leaves what an insertion of k into p and e does, in all destinations
 abbrev pub AsInserted : List ℕ → List ℕ → Key → List ℕ → List ℕ → List ℕ → List ℕ → Type 0
