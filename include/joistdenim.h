@@ -3,7 +3,7 @@
  *
  * One rule for every function:
  * - It returns 0, or the number of the first refusal that applies over all arguments, in the
- *   order in which the function names them, which is 1, 2, 3, 4, 5, 11, 12, 6, 7, 8, 9, 10.
+ *   order in which the function names them: 1, 2, 3, 4, 13, 5, 11, 12, 6, 7, 8, 9, 10.
  * - What it answers goes through the last parameter, a pointer to one number.
  *   A refusal leaves that number, like every lent byte, as it was.
  * - A slice is a pointer and a length in bytes. A slice that is written overlaps nothing else
@@ -33,7 +33,7 @@
 /* The version. A new call raises the minor; a changed signature, answer or format the major.
  * CHANGELOG.md says what a caller must do. */
 #define JD_VERSION_MAJOR 2
-#define JD_VERSION_MINOR 0
+#define JD_VERSION_MINOR 1
 #define JD_VERSION_PATCH 0
 
 #define JD_MAX_LEN 64
@@ -49,18 +49,19 @@
 #define JD_MAX 65535
 
 enum jd_refusal {
-    JD_SHAPE = 1,           /* a slice isn't the records, entries or pair it should be */
-    JD_MALFORMED = 2,       /* a malformed record or pair, a wrong mark, or a key over 64 bytes */
-    JD_UNSORTED = 3,        /* pivots don't rise strictly */
-    JD_EMPTY_PREFIX = 4,    /* an edge where the range's prefix is empty */
-    JD_OUT_OF_RANGE = 5,    /* the key is outside the table's range */
-    JD_NO_SUCH_SLOT = 6,    /* no such slot, or no key at that place */
-    JD_NOT_PREFIX = 7,      /* an old prefix doesn't begin what it must */
-    JD_TOO_LONG = 8,        /* a produced key or prefix passes 64 bytes */
-    JD_NOT_BELOW = 9,       /* left isn't below right, or the last new pivot isn't below the end */
-    JD_NO_ROOM = 10,        /* a destination is too short */
-    JD_ALREADY_PIVOT = 11,  /* the key is already a pivot */
-    JD_TOO_MANY_PIVOTS = 12 /* the table would have more than 64 pivots */
+    JD_SHAPE = 1,            /* a slice isn't the records, entries or pair it should be */
+    JD_MALFORMED = 2,        /* a malformed record or pair, a wrong mark, or a key over 64 bytes */
+    JD_UNSORTED = 3,         /* pivots don't rise strictly */
+    JD_EMPTY_PREFIX = 4,     /* an edge where the range's prefix is empty */
+    JD_OUT_OF_RANGE = 5,     /* the key is outside the table's range */
+    JD_NO_SUCH_SLOT = 6,     /* no such slot, or no key at that place */
+    JD_NOT_PREFIX = 7,       /* an old prefix doesn't begin what it must */
+    JD_TOO_LONG = 8,         /* a produced key or prefix passes 64 bytes */
+    JD_NOT_BELOW = 9,        /* left isn't below right, or the last new pivot below the end */
+    JD_NO_ROOM = 10,         /* a destination is too short */
+    JD_ALREADY_PIVOT = 11,   /* the key is already a pivot */
+    JD_TOO_MANY_PIVOTS = 12, /* the table would have more than 64 pivots */
+    JD_NOT_MEETING = 13      /* the tables don't meet: one's last pivot isn't the other's first */
 };
 
 #ifdef __cplusplus
@@ -95,105 +96,6 @@ uint32_t jd_pivot_lcp(const uint8_t *left, size_t left_len,
 uint32_t jd_shortest_uncommon_prefix(const uint8_t *prefix, size_t prefix_len,
                                      uint8_t *dest, size_t dest_len, uint64_t *written);
 
-/* ---- Tables. Pivots are 2 to JD_MAX_PIVOTS records: keys that rise strictly, the last may be
- * max. Edges are one record fewer: a key or JD_NO_EDGE. "Yes" is 1 and "no" 0. */
-
-/* Whether the pivots are well formed: 0, which is yes, or the refusal; there is nothing more to
- * answer. Refuses JD_SHAPE, JD_MALFORMED, JD_UNSORTED. */
-uint32_t jd_wf_pivots(const uint8_t *pivots, size_t pivots_len);
-
-/* Whether pivots and edges are well formed, told in the same way.
- * Refuses JD_SHAPE, JD_MALFORMED, JD_UNSORTED, JD_EMPTY_PREFIX. */
-uint32_t jd_wf_edges(const uint8_t *pivots, size_t pivots_len,
-                     const uint8_t *edges, size_t edges_len);
-
-/* Whether the table goes from the empty key to max.
- * Refuses JD_SHAPE, JD_MALFORMED, JD_UNSORTED. */
-uint32_t jd_contains_all_keys(const uint8_t *pivots, size_t pivots_len, uint64_t *yes);
-
-/* Whether the table's range holds all from a left key up to a right element.
- * Refuses JD_SHAPE, JD_MALFORMED, JD_UNSORTED, JD_NOT_BELOW. */
-uint32_t jd_contains_range(const uint8_t *pivots, size_t pivots_len,
-                           const uint8_t *left, size_t left_len,
-                           const uint8_t *right, size_t right_len, uint64_t *yes);
-
-/* Whether the key is not below the first pivot and below the last.
- * Refuses JD_SHAPE, JD_MALFORMED, JD_UNSORTED. */
-uint32_t jd_bounded_key(const uint8_t *pivots, size_t pivots_len,
-                        const uint8_t *key, size_t key_len, uint64_t *yes);
-
-/* Whether the key is above the first pivot and not above the last.
- * Refuses JD_SHAPE, JD_MALFORMED, JD_UNSORTED. */
-uint32_t jd_valid_left_cut_off_key(const uint8_t *pivots, size_t pivots_len,
-                                   const uint8_t *key, size_t key_len, uint64_t *yes);
-
-/* Whether the pivots would still rise with the key put in at this place; past the pivots' count
- * it is no. Refuses JD_SHAPE, JD_MALFORMED, JD_UNSORTED. */
-uint32_t jd_pivot_insertable(const uint8_t *pivots, size_t pivots_len, uint64_t place,
-                             const uint8_t *key, size_t key_len, uint64_t *yes);
-
-/* The length of the key at this place; it begins at byte 2 of the place's record.
- * Refuses JD_SHAPE, JD_MALFORMED, JD_UNSORTED, JD_NO_SUCH_SLOT (max stands there, too). */
-uint32_t jd_get_key(const uint8_t *pivots, size_t pivots_len, uint64_t place, uint64_t *length);
-
-/* Writes the first table, the empty key and max; answers 2. Refuses JD_NO_ROOM. */
-uint32_t jd_init_pivot_table(uint8_t *dest, size_t dest_len, uint64_t *written);
-
-/* The slot of the key: the last pivot not above it.
- * Refuses JD_SHAPE, JD_MALFORMED, JD_UNSORTED, JD_OUT_OF_RANGE. */
-uint32_t jd_route(const uint8_t *pivots, size_t pivots_len,
-                  const uint8_t *key, size_t key_len, uint64_t *slot);
-
-/* The slot where a left cut at the key ends: the last pivot below it.
- * Refuses JD_SHAPE, JD_MALFORMED, JD_UNSORTED, JD_OUT_OF_RANGE. */
-uint32_t jd_cutoff_for_left(const uint8_t *pivots, size_t pivots_len,
-                            const uint8_t *key, size_t key_len, uint64_t *slot);
-
-/* The slot where a right cut at the key begins: the key's.
- * Refuses JD_SHAPE, JD_MALFORMED, JD_UNSORTED, JD_OUT_OF_RANGE. */
-uint32_t jd_cutoff_for_right(const uint8_t *pivots, size_t pivots_len,
-                             const uint8_t *key, size_t key_len, uint64_t *slot);
-
-/* ---- Cuts of a table with its edges, a new pivot in it, and the translation of a key. A table is
- * written into two destinations; the answer is the pivots written, the edges are one fewer. */
-
-/* Cuts off what lies from the key on: writes the pivots below the key and the key, and the edges
- * of these slots. The edge of the slot that is cut goes on with what the range's prefix gains.
- * The key is above the first pivot and not above the last. Refuses JD_SHAPE, JD_MALFORMED,
- * JD_UNSORTED, JD_EMPTY_PREFIX, JD_OUT_OF_RANGE, JD_TOO_LONG, JD_NO_ROOM. */
-uint32_t jd_split_left(const uint8_t *pivots, size_t pivots_len,
-                       const uint8_t *edges, size_t edges_len,
-                       const uint8_t *key, size_t key_len,
-                       uint8_t *dest_pivots, size_t dest_pivots_len,
-                       uint8_t *dest_edges, size_t dest_edges_len, uint64_t *written);
-
-/* Cuts off what lies below the key: writes the key and the pivots above it, and the edges of
- * these slots, the first one's as in jd_split_left. The key is not below the first pivot and
- * below the last. Refuses as jd_split_left does. */
-uint32_t jd_split_right(const uint8_t *pivots, size_t pivots_len,
-                        const uint8_t *edges, size_t edges_len,
-                        const uint8_t *key, size_t key_len,
-                        uint8_t *dest_pivots, size_t dest_pivots_len,
-                        uint8_t *dest_edges, size_t dest_edges_len, uint64_t *written);
-
-/* Puts the key, between the first pivot and the last, in as a pivot: writes the pivots in order,
- * and the edges, of which the halves of its slot have those that cuts at the key give them. Each
- * destination needs 66 bytes more than the slice that it takes the place of. Refuses as
- * jd_split_left, after JD_OUT_OF_RANGE also JD_ALREADY_PIVOT (any of them), JD_TOO_MANY_PIVOTS. */
-uint32_t jd_insert_pivot(const uint8_t *pivots, size_t pivots_len,
-                         const uint8_t *edges, size_t edges_len,
-                         const uint8_t *key, size_t key_len,
-                         uint8_t *dest_pivots, size_t dest_pivots_len,
-                         uint8_t *dest_edges, size_t dest_edges_len, uint64_t *written);
-
-/* Writes the key with its slot's edge in place of the range's prefix, or the key itself where
- * the slot has no edge; answers its length. Refuses JD_SHAPE, JD_MALFORMED, JD_UNSORTED,
- * JD_EMPTY_PREFIX, JD_OUT_OF_RANGE, JD_TOO_LONG, JD_NO_ROOM. */
-uint32_t jd_translate_key(const uint8_t *pivots, size_t pivots_len,
-                          const uint8_t *edges, size_t edges_len,
-                          const uint8_t *key, size_t key_len,
-                          uint8_t *dest, size_t dest_len, uint64_t *length);
-
 /* ---- Pairs. Where the result is a pair, the answer is 1 where it is there and 0 where it is
  * absent. */
 
@@ -223,42 +125,6 @@ uint32_t jd_apply_pair(const uint8_t *pair, size_t pair_len,
 uint32_t jd_compose_pairs(const uint8_t *pair_a, size_t pair_a_len,
                           const uint8_t *pair_b, size_t pair_b_len,
                           uint8_t *dest_pair, size_t dest_pair_len, uint64_t *there);
-
-/* ---- Pivots and edges under another prefix. */
-
-/* Writes the range from a left key up to a right element under the new prefix, two records: left
- * with its prefix changed; right with its prefix changed, or the new prefix's upper bound where
- * right is max or lacks the prefix. Answers 2. Refuses JD_SHAPE, JD_MALFORMED, JD_NOT_PREFIX (of
- * left), JD_TOO_LONG, JD_NOT_BELOW, JD_NO_ROOM. */
-uint32_t jd_translate_pivot_pair(const uint8_t *left, size_t left_len,
-                                 const uint8_t *right, size_t right_len,
-                                 const uint8_t *prefix, size_t prefix_len,
-                                 const uint8_t *new_prefix, size_t new_prefix_len,
-                                 uint8_t *dest, size_t dest_len, uint64_t *written);
-
-/* Writes each pivot but the last with its prefix changed, and in place of the last the given end,
- * an element above the others. Answers the pivots written. Refuses JD_SHAPE, JD_MALFORMED,
- * JD_UNSORTED, JD_NOT_PREFIX, JD_TOO_LONG, JD_NOT_BELOW, JD_NO_ROOM. */
-uint32_t jd_translate_pivots(const uint8_t *pivots, size_t pivots_len,
-                             const uint8_t *prefix, size_t prefix_len,
-                             const uint8_t *new_prefix, size_t new_prefix_len,
-                             const uint8_t *end, size_t end_len,
-                             uint8_t *dest, size_t dest_len, uint64_t *written);
-
-/* Writes each edge, and where there is none the range's prefix, which may be empty: then
- * jd_wf_edges refuses what was written. Answers the edges written. Refuses JD_SHAPE,
- * JD_MALFORMED, JD_UNSORTED, JD_EMPTY_PREFIX, JD_NO_ROOM. */
-uint32_t jd_translate_edges(const uint8_t *pivots, size_t pivots_len,
-                            const uint8_t *edges, size_t edges_len,
-                            uint8_t *dest, size_t dest_len, uint64_t *written);
-
-/* Whether the child's range holds the range of the parent's slot: under the slot's edge, or as it
- * is where the slot has none. Refuses JD_SHAPE, JD_MALFORMED, JD_UNSORTED, JD_EMPTY_PREFIX (of
- * the parent), JD_NO_SUCH_SLOT, JD_TOO_LONG (a bound under the edge). */
-uint32_t jd_parent_keys_in_child_range(const uint8_t *parent_pivots, size_t parent_pivots_len,
-                                       const uint8_t *parent_edges, size_t parent_edges_len,
-                                       const uint8_t *child_pivots, size_t child_pivots_len,
-                                       uint64_t slot, uint64_t *yes);
 
 /* ---- Buckets under another prefix. A bucket is 0 to JD_MAX_ENTRIES entries, in any order; keys
  * may be equal. */
@@ -295,5 +161,7 @@ uint32_t jd_list_table(const uint8_t *input, size_t input_len,
 #ifdef __cplusplus
 }
 #endif
+
+#include "joistdenim_tables.h"
 
 #endif

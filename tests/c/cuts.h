@@ -1,11 +1,14 @@
 /*
- * What the C programs share on cuts of T and on a new pivot in it: T with other edges, two calls
- * in a row, and refusals 1 to 5 of a call that is lent a table and a key.
+ * What the C programs share on cuts of T, on a new pivot in it and on joins: T with other edges,
+ * copies of what is lent, two calls in a row, and refusals 1 to 5 of a call that is lent a table
+ * and a key.
  */
 #ifndef CUTS_H
 #define CUTS_H
 
 #include "table.h"
+
+static const lengths no_room = {0, 0};
 
 static inline pair t(void)
 {
@@ -27,6 +30,23 @@ static inline slice grown(size_t length, uint8_t byte)
     memcpy(b, long_bytes, length - 1);
     b[length - 1] = byte;
     return (slice){b, length};
+}
+
+/* A copy of what is lent, for afterwards. */
+typedef struct {
+    slice lent;
+    uint8_t bytes[(JD_MAX_PIVOTS + 2) * JD_RECORD_SIZE];
+} copy;
+
+static inline void copied(copy *c, slice lent)
+{
+    c->lent = lent;
+    memcpy(c->bytes, lent.bytes, lent.length);
+}
+
+static inline int unchanged(const copy *c)
+{
+    return memcmp(c->bytes, c->lent.bytes, c->lent.length) == 0;
 }
 
 /* ---- two calls: the second is lent exactly what the first wrote */

@@ -1,9 +1,9 @@
 /*
  * Each function on single keys from C: a normal case, each of its refusals, and which refusal
  * comes first where two apply. Around every destination stand bytes that must not change. Then a
- * key's way through a table: cuts, a new pivot and translations, whose refusals are in cuts.c and
- * insert.c. Then pairs, renamed pivots and edges, parent and child, a bucket, and a table's list;
- * more of these is in pairs.c, renaming.c, buckets.c and list.c.
+ * key's way through a table: cuts, a new pivot, the halves joined and translations, whose refusals
+ * are in cuts.c, insert.c and join.c. Then pairs, renamed pivots and edges, parent and child, a
+ * bucket, and a table's list; more of these is in pairs.c, renaming.c, buckets.c and list.c.
  */
 #include "bucket.h"
 #include "pair.h"
@@ -183,6 +183,18 @@ static void key_through_t(void)
     cut("insert_pivot: 11", jd_insert_pivot, t, BYTES("A5"), ample, JD_ALREADY_PIVOT, nothing);
 }
 
+/* ---- T's halves, put together */
+
+static void halves_joined(void)
+{
+    pair t = {pivots_of_t(), edges_of_t()};
+    slice a5 = key(BYTES("A5"));
+    pair first = {TABLE(key(BYTES("A0")), a5), key(BYTES("C"))};
+    pair second = {TABLE(a5, key(BYTES("B"))), record(JD_NO_EDGE, none)};
+    join("join: T's halves", first, second, ample, 0, t);
+    join("join: 13", second, first, ample, JD_NOT_MEETING, nothing);
+}
+
 /* ---- the key's pair, undone, composed and applied */
 
 static void pairs_of_t(void)
@@ -256,6 +268,7 @@ int main(void)
     pivot_lcp_checks();
     shortest_uncommon_prefix_checks();
     key_through_t();
+    halves_joined();
     pairs_of_t();
     shelf_moved();
     drawer_renamed();

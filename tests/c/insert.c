@@ -5,25 +5,6 @@
  */
 #include "cuts.h"
 
-static const lengths no_room = {0, 0};
-
-/* A copy of what is lent, for afterwards. */
-typedef struct {
-    slice lent;
-    uint8_t bytes[(JD_MAX_PIVOTS + 2) * JD_RECORD_SIZE];
-} copy;
-
-static void copied(copy *c, slice lent)
-{
-    c->lent = lent;
-    memcpy(c->bytes, lent.bytes, lent.length);
-}
-
-static int unchanged(const copy *c)
-{
-    return memcmp(c->bytes, c->lent.bytes, c->lent.length) == 0;
-}
-
 /* An insertion: what it returns and answers, both destinations whole, and what was lent. */
 static void insert(const char *name, pair table, slice k, lengths dest, uint32_t wanted,
                    pair written)
@@ -48,15 +29,6 @@ static pair t_and(slice k, slice left_edge, slice right_edge)
 {
     slice pivots = TABLE(key(BYTES("A0")), key(k), key(BYTES("A5")), key(BYTES("B")));
     return (pair){pivots, TABLE(key(left_edge), key(right_edge), record(JD_NO_EDGE, none))};
-}
-
-/* This many edges, each of these bytes. */
-static slice alike(size_t length, slice edge)
-{
-    uint8_t *t = next_table();
-    for (size_t i = 0; i < length; i++)
-        put(t + i * JD_RECORD_SIZE, (unsigned)edge.length, edge);
-    return (slice){t, length * JD_RECORD_SIZE};
 }
 
 /* ---- T */

@@ -1,6 +1,6 @@
 /*
- * What the C programs on tables share: tables of records, good and bad, and cuts and lists of
- * them into destinations between bytes that must not change.
+ * What the C programs on tables share: tables of records, good and bad, and cuts, joins and lists
+ * of them into destinations between bytes that must not change.
  */
 #ifndef TABLE_H
 #define TABLE_H
@@ -48,6 +48,15 @@ static inline slice absent(size_t count)
     return (slice){t, count * JD_RECORD_SIZE};
 }
 
+/* This many edges, each of these bytes. */
+static inline slice alike(size_t length, slice edge)
+{
+    uint8_t *t = next_table();
+    for (size_t i = 0; i < length; i++)
+        put(t + i * JD_RECORD_SIZE, (unsigned)edge.length, edge);
+    return (slice){t, length * JD_RECORD_SIZE};
+}
+
 /* Table T's pivots: A0, A5, B. Its edges are C and none. */
 static inline slice pivots_of_t(void)
 {
@@ -70,7 +79,7 @@ static inline slice falling_and_wrong(void)
     return TABLE(key(BYTES("B")), key(BYTES("A")), record(65, none));
 }
 
-/* ---- cuts */
+/* ---- cuts and joins */
 
 typedef uint32_t split_call(const uint8_t *pivots, size_t pivots_len, const uint8_t *edges,
                             size_t edges_len, const uint8_t *key, size_t key_len,
@@ -90,27 +99,52 @@ typedef struct {
 static const lengths ample = {CUT_ROOM, CUT_ROOM};
 static const pair nothing = {{long_bytes, 0}, {long_bytes, 0}};
 
-/* The destinations of a cut. Two cuts in a row have different ones, so that the second can be
+/* The destinations of a table. Two calls in a row have different ones, so that the second can be
  * lent what the first wrote. */
 static struct {
     uint8_t pivots[GUARD + CUT_ROOM + GUARD];
     uint8_t edges[GUARD + CUT_ROOM + GUARD];
 } cut_rooms[2], *cut_room = cut_rooms;
 
-/* A cut: what it returns and answers, and both destinations whole. */
+static inline void next_cut_room(void)
+{
+    cut_room = cut_room == cut_rooms ? cut_rooms + 1 : cut_rooms;
+    refill(cut_room->pivots, sizeof cut_room->pivots);
+    refill(cut_room->edges, sizeof cut_room->edges);
+}
+
+/* What the call returned and answered, and both destinations whole. */
+static inline void table_result(const char *name, uint32_t got, uint64_t number, uint32_t wanted,
+                                pair written)
+{
+    result(name, got, number, wanted, written.pivots.length / JD_RECORD_SIZE);
+    count(holds(cut_room->pivots, sizeof cut_room->pivots, written.pivots), name);
+    count(holds(cut_room->edges, sizeof cut_room->edges, written.edges), name);
+}
+
+/* A cut, or a key put in as a pivot. */
 static inline void cut(const char *name, split_call *call, pair table, slice k, lengths dest,
                        uint32_t wanted, pair written)
 {
     uint64_t number = NUMBER_BEFORE;
-    cut_room = cut_room == cut_rooms ? cut_rooms + 1 : cut_rooms;
-    uint8_t *to_pivots = refill(cut_room->pivots, sizeof cut_room->pivots);
-    uint8_t *to_edges = refill(cut_room->edges, sizeof cut_room->edges);
+    next_cut_room();
     uint32_t got = call(table.pivots.bytes, table.pivots.length, table.edges.bytes,
-                        table.edges.length, k.bytes, k.length, to_pivots, dest.pivots, to_edges,
-                        dest.edges, &number);
-    result(name, got, number, wanted, written.pivots.length / JD_RECORD_SIZE);
-    count(holds(cut_room->pivots, sizeof cut_room->pivots, written.pivots), name);
-    count(holds(cut_room->edges, sizeof cut_room->edges, written.edges), name);
+                        table.edges.length, k.bytes, k.length, cut_room->pivots + GUARD,
+                        dest.pivots, cut_room->edges + GUARD, dest.edges, &number);
+    table_result(name, got, number, wanted, written);
+}
+
+/* Two tables put together. */
+static inline void join(const char *name, pair first, pair second, lengths dest, uint32_t wanted,
+                        pair written)
+{
+    uint64_t number = NUMBER_BEFORE;
+    next_cut_room();
+    uint32_t got = jd_join(first.pivots.bytes, first.pivots.length, first.edges.bytes,
+                           first.edges.length, second.pivots.bytes, second.pivots.length,
+                           second.edges.bytes, second.edges.length, cut_room->pivots + GUARD,
+                           dest.pivots, cut_room->edges + GUARD, dest.edges, &number);
+    table_result(name, got, number, wanted, written);
 }
 
 /* The translation of a key, into a destination of this length. */

@@ -42,6 +42,7 @@ fn main() -> ExitCode {
     cases.extend(table_calls::cases(&mut random));
     cases.extend(bucket_calls::cases(&mut random));
     cases.extend(table_calls::insertions(&mut random));
+    cases.extend(table_calls::joins(&mut random));
     for case in &mut cases {
         case.calibrate();
     }

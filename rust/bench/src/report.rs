@@ -124,6 +124,8 @@ pub fn print(cases: &[Case], rounds: usize) {
     println!();
     tables(cases, &["insert_pivot"], table_calls::PIVOTS_BEFORE);
     println!();
+    tables(cases, &["join"], table_calls::PIVOTS_JOINED);
+    println!();
     checks(cases);
     println!();
     buckets(cases);

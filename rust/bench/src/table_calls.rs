@@ -1,6 +1,7 @@
 //! The calls on tables.
 use crate::case::Case;
 use crate::inputs::{record, Table, Xorshift, MAX};
+use crate::lent::Slices;
 use crate::sides::case;
 use joistdenim::{PAIR_SIZE, RECORD_SIZE};
 
@@ -22,6 +23,8 @@ pub const KEYS: [usize; 4] = [3, 8, 32, 60];
 pub const PIVOTS: [usize; 3] = [2, 8, 64];
 /// Of a table that a pivot is put into, and that may have 64 then.
 pub const PIVOTS_BEFORE: [usize; 3] = [2, 8, 63];
+/// Of a table joined from two halves, of which the smallest have two pivots each.
+pub const PIVOTS_JOINED: [usize; 3] = [3, 8, 64];
 /// Few, so that large tables stay in the nearest caches too.
 const TABLES: usize = 4;
 const KEYS_PER_TABLE: usize = 4;
@@ -130,6 +133,31 @@ pub fn insertions(random: &mut Xorshift) -> Vec<Case> {
     let mut cases = vec![];
     for key in KEYS {
         cases.extend(PIVOTS_BEFORE.map(|pivots| insertion(random, (key, pivots))));
+    }
+    cases
+}
+
+/// The halves of a table, cut at its middle pivot.
+fn halves(table: &Table) -> Slices<4> {
+    let place = table.pivots.len() / RECORD_SIZE / 2 * RECORD_SIZE;
+    [
+        table.pivots[..place + RECORD_SIZE].into(),
+        table.edges[..place].into(),
+        table.pivots[place..].into(),
+        table.edges[place..].into(),
+    ]
+}
+
+/// Two tables put together.
+fn join(random: &mut Xorshift, size: (usize, usize)) -> Case {
+    let asked: Vec<_> = tables(random, size).iter().map(halves).collect();
+    case!(size, &asked, join(p1, e1, p2, e2; dest_pivots, dest_edges), |count| count, both)
+}
+
+pub fn joins(random: &mut Xorshift) -> Vec<Case> {
+    let mut cases = vec![];
+    for key in KEYS {
+        cases.extend(PIVOTS_JOINED.map(|pivots| join(random, (key, pivots))));
     }
     cases
 }

@@ -13,6 +13,8 @@ pub enum Kind {
     Pivots,
     /// The pivots of a second table.
     Child,
+    /// The pivots of a table that another is joined with.
+    Second,
     Edges,
     Pair,
     Bucket,

@@ -8,7 +8,7 @@ use crate::group::Group;
 use crate::inputs::{counted, entry, field_record, record, MAX, NO_EDGE};
 use crate::list_inputs::usual_inputs;
 use crate::pair_inputs::{pair, usual_pairs};
-use crate::table_inputs::{usual_edges, usual_pivots};
+use crate::table_inputs::{usual_edges, usual_pivots, usual_seconds};
 
 const LONGEST: usize = 140;
 
@@ -29,6 +29,7 @@ pub fn usual(kind: Kind) -> Vec<Vec<u8>> {
         }
         Kind::Entry => records.map(|r| entry(r).to_vec()).collect(),
         Kind::Pivots | Kind::Child => usual_pivots(),
+        Kind::Second => usual_seconds(),
         Kind::Edges => usual_edges(),
         Kind::Pair => usual_pairs(),
         Kind::Bucket => usual_buckets(),
@@ -94,6 +95,7 @@ pub fn every_length(group: &mut Group, call: &Call) {
         (0, _) => &[[0, 0]],
         (1, 4) => &[[0, 0], [133, 0]],
         (1, _) => &[[0, 0], [1, 0], [64, 0], [65, 0], [66, 0], [133, 0]],
+        (_, 4) => &[[0, 0], [400, 300]],
         _ => &[[0, 0], [131, 66], [132, 65], [300, 300]],
     };
     for (argument, (_, kind)) in call.arguments.iter().enumerate() {

@@ -11,6 +11,7 @@ mod dests;
 mod group;
 mod inputs;
 mod insertion;
+mod joining;
 mod key_calls;
 mod lengths;
 mod lent;
@@ -98,6 +99,7 @@ fn main() -> ExitCode {
         tables::tests(),
         cuts::tests(),
         insertion::tests(),
+        joining::tests(),
         pairs::tests(),
         renaming::tests(),
         parent_child::tests(),

@@ -52,7 +52,7 @@ fn slice(random: &mut Xorshift, kind: Kind, base: &[u8]) -> Vec<u8> {
             Ok(record) => entry(&record).to_vec(),
             Err(bytes) => bytes,
         },
-        Kind::Pivots | Kind::Child => random_pivots(random, base),
+        Kind::Pivots | Kind::Child | Kind::Second => random_pivots(random, base),
         Kind::Pair => random_pair(random, base),
         Kind::Bucket => random_bucket(random, base),
         Kind::Edges => random_edges(random, base),

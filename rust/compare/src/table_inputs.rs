@@ -28,6 +28,11 @@ pub fn absent(count: usize) -> Vec<u8> {
     field_record(NO_EDGE).repeat(count)
 }
 
+/// This many edges, each another one.
+pub fn distinct(count: usize) -> Vec<u8> {
+    (0..count).flat_map(|i| record(&[0x50, i as u8])).collect()
+}
+
 /// The table with another record at a place.
 pub fn with(table: &[u8], place: usize, record: &[u8]) -> Vec<u8> {
     let mut changed = table.to_vec();
@@ -56,6 +61,23 @@ pub fn usual_pivots() -> Vec<Vec<u8>> {
         with(&t, 1, &t[..66]),
         t,
         falling,
+    ]
+}
+
+/// Good and bad pivots of a second table: some begin where T or another of the usual ones ends, and
+/// most have as many slots as T.
+pub fn usual_seconds() -> Vec<Vec<u8>> {
+    let after_t = table(&[&[0x42], &[0x42, 0x05], &[0x43]]);
+    vec![
+        [record(&[0x41, 0xBD]), field_record(MAX)].concat(),
+        rising(65),
+        after_t[..197].to_vec(),
+        with(&after_t, 1, &field_record(65)),
+        with(&after_t, 0, &field_record(MAX)),
+        with(&after_t, 1, &after_t[..66]),
+        with(&after_t, 2, &field_record(MAX)),
+        with(&after_t, 0, &record(&[0x42, 0x00])),
+        after_t,
     ]
 }
 

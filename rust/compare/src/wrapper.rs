@@ -65,17 +65,44 @@ pub fn into<R>(len: usize, call: impl Fn(&mut [u8]) -> R) -> (R, Vec<u8>) {
     (call(&mut bytes[8..8 + len]), bytes)
 }
 
-/// One call of the wrapper and of the reference, with a destination of this length.
-macro_rules! into_both {
-    ($group:ident, $dest:expr, $call:ident($($slice:expr),*)) => {{
-        let (got, left) = crate::wrapper::into($dest, |d| joistdenim::$call($($slice,)* d));
-        let (wanted, right) = crate::wrapper::into($dest, |d| reference::$call($($slice,)* d));
+/// The same with two destinations.
+pub fn into_two<R>(
+    dests: [usize; 2],
+    call: impl Fn(&mut [u8], &mut [u8]) -> R,
+) -> (R, [Vec<u8>; 2]) {
+    let [mut first, mut second] = dests.map(|len| vec![7; len + 16]);
+    let result = call(&mut first[8..8 + dests[0]], &mut second[8..8 + dests[1]]);
+    (result, [first, second])
+}
+
+/// One call of the wrapper and of the reference, with what is lent to write to named after it.
+macro_rules! both {
+    ($group:ident, $into:ident($dests:expr), $call:ident($($slice:expr),*; $($dest:ident),*)) => {{
+        use crate::wrapper::{$into, same};
+        let (got, left) = $into($dests, |$($dest),*| joistdenim::$call($($slice,)* $($dest),*));
+        let (wanted, right) = $into($dests, |$($dest),*| reference::$call($($slice,)* $($dest),*));
         let slices: &[&[u8]] = &[$($slice),*];
-        crate::wrapper::same($group, stringify!($call), slices, got, wanted);
-        crate::wrapper::same($group, stringify!($call), slices, Ok(left), Ok(right));
+        same($group, stringify!($call), slices, got, wanted);
+        same($group, stringify!($call), slices, Ok(left), Ok(right));
     }};
 }
+pub(crate) use both;
+
+/// One call of both, with a destination of this length.
+macro_rules! into_both {
+    ($group:ident, $dest:expr, $call:ident($($slice:expr),*)) => {
+        crate::wrapper::both!($group, into($dest), $call($($slice),*; dest))
+    };
+}
 pub(crate) use into_both;
+
+/// One call of both, with two destinations of these lengths.
+macro_rules! two_into_both {
+    ($group:ident, $dests:expr, $call:ident($($slice:expr),*)) => {
+        crate::wrapper::both!($group, into_two($dests), $call($($slice),*; first, second))
+    };
+}
+pub(crate) use two_into_both;
 
 pub fn destinations(group: &mut Group) {
     let keys = small_keys(3);

@@ -27,7 +27,7 @@ mod renaming;
 mod tables;
 
 pub use buckets::{translate_bucket, translate_bucket_will_fit};
-pub use cuts::{insert_pivot, split_left, split_right, translate_key};
+pub use cuts::{insert_pivot, join, split_left, split_right, translate_key};
 pub use keys::{change_prefix, compare, entry_key, pivot_key, pivot_lcp, shortest_uncommon_prefix};
 pub use list::list_table;
 pub use pair::Pair;

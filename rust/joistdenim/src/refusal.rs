@@ -17,6 +17,7 @@ pub enum Refusal {
     NoRoom = 10,
     AlreadyPivot = 11,
     TooManyPivots = 12,
+    NotMeeting = 13,
 }
 
 impl Refusal {
@@ -40,6 +41,7 @@ impl Refusal {
             10 => Refusal::NoRoom,
             11 => Refusal::AlreadyPivot,
             12 => Refusal::TooManyPivots,
+            13 => Refusal::NotMeeting,
             other => unreachable!("the archive has no refusal {other}"),
         })
     }
@@ -60,6 +62,9 @@ impl Refusal {
             Refusal::NoRoom => "a destination is too short",
             Refusal::AlreadyPivot => "the key is already a pivot",
             Refusal::TooManyPivots => "the table would have more than 64 pivots",
+            Refusal::NotMeeting => {
+                "the tables don't meet: one's last pivot isn't the other's first"
+            }
         }
     }
 }
@@ -79,7 +84,7 @@ mod tests {
     #[test]
     fn each_number_is_its_refusal() {
         assert_eq!(Refusal::check(0), Ok(()));
-        for number in 1..=12 {
+        for number in 1..=13 {
             assert_eq!(Refusal::check(number).unwrap_err().number(), number);
         }
     }

@@ -5,22 +5,28 @@ use Refusal::*;
 
 pub type Split = fn(&[u8], &[u8], &[u8], &mut [u8], &mut [u8]) -> Result<usize, Refusal>;
 
-/// What a cut answers, and the pivots and edges that it leaves in destinations with room to
+/// What a call answers, and the pivots and edges that it leaves in destinations with room to
 /// spare. No other byte may change.
-pub fn cut(
-    split: Split,
-    table: &(Vec<u8>, Vec<u8>),
-    key: &[u8],
+pub fn written(
+    call: impl FnOnce(&mut [u8], &mut [u8]) -> Result<usize, Refusal>,
 ) -> Result<(Vec<u8>, Vec<u8>), Refusal> {
     let room = MAX_PIVOTS * RECORD_SIZE;
     let (mut pivots, mut edges) = (vec![7; room], vec![9; room]);
-    let result = split(&table.0, &table.1, key, &mut pivots, &mut edges);
+    let result = call(&mut pivots, &mut edges);
     let written = result.map_or((0, 0), |pivots| (66 * pivots, 66 * (pivots - 1)));
     assert!(pivots[written.0..].iter().all(|&b| b == 7));
     assert!(edges[written.1..].iter().all(|&b| b == 9));
     pivots.truncate(written.0);
     edges.truncate(written.1);
     result.map(|_| (pivots, edges))
+}
+
+pub fn cut(
+    split: Split,
+    table: &(Vec<u8>, Vec<u8>),
+    key: &[u8],
+) -> Result<(Vec<u8>, Vec<u8>), Refusal> {
+    written(|pivots, edges| split(&table.0, &table.1, key, pivots, edges))
 }
 
 pub fn translated(table: &(Vec<u8>, Vec<u8>), key: &[u8]) -> Result<Vec<u8>, Refusal> {
@@ -113,11 +119,18 @@ fn produced_keys_of_64_and_65_bytes() {
 }
 
 /// The refusal, with destinations of these lengths that must stay as they are.
-pub fn refused(split: Split, p: &[u8], e: &[u8], key: &[u8], dests: (usize, usize)) -> Refusal {
+pub fn unwritten(
+    dests: (usize, usize),
+    call: impl FnOnce(&mut [u8], &mut [u8]) -> Result<usize, Refusal>,
+) -> Refusal {
     let (mut pivots, mut edges) = (vec![7; dests.0], vec![9; dests.1]);
-    let refusal = split(p, e, key, &mut pivots, &mut edges).unwrap_err();
+    let refusal = call(&mut pivots, &mut edges).unwrap_err();
     assert_eq!((pivots, edges), (vec![7; dests.0], vec![9; dests.1]));
     refusal
+}
+
+pub fn refused(split: Split, p: &[u8], e: &[u8], key: &[u8], dests: (usize, usize)) -> Refusal {
+    unwritten(dests, |pivots, edges| split(p, e, key, pivots, edges))
 }
 
 #[test]

@@ -24,7 +24,7 @@ fn produced(edge: &Option<Vec<u8>>) -> Result<Edge<'_>, Refusal> {
 }
 
 /// Writes a table into two destinations; where either is too short, into neither: cause 10.
-fn put(
+pub(crate) fn put(
     pivots: &[Element],
     edges: &[Edge],
     dest_pivots: &mut [u8],

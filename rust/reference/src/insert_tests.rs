@@ -1,6 +1,6 @@
 //! A key put in as a pivot, with results written down by hand; and its laws on small tables.
 use crate::cut_tests::{cut, refused, translated};
-use crate::test_tables::{field, max, no_edge, record, t, table};
+use crate::test_tables::{field, many, max, no_edge, record, t, table};
 use crate::*;
 use Refusal::*;
 
@@ -13,12 +13,6 @@ fn inserted(table: &Table, key: &[u8]) -> Result<Table, Refusal> {
 /// T with another first edge.
 fn t_with(edge: &[u8]) -> Table {
     (t().0, [record(edge), no_edge()].concat())
-}
-
-/// So many pivots of two bytes, two apart, and this edge in every slot.
-fn many(count: u8, edge: Vec<u8>) -> Table {
-    let pivots = (0..count).flat_map(|i| record(&[0x41, 2 * i]));
-    (pivots.collect(), edge.repeat(usize::from(count) - 1))
 }
 
 #[test]

@@ -4,7 +4,7 @@
 //!
 //! A call reads its bytes into `Element`, `Edge` and `Entry` values first, and a `?` for each
 //! cause stands in the call's order of causes: cause 1 of every argument, then cause 2 of every
-//! argument, and so on. The order is 1, 2, 3, 4, 5, 11, 12, 6, 7, 8, 9, 10.
+//! argument, and so on. The order is 1, 2, 3, 4, 13, 5, 11, 12, 6, 7, 8, 9, 10.
 #![forbid(unsafe_code)]
 
 #[cfg(test)]
@@ -17,6 +17,9 @@ mod entry;
 mod image;
 #[cfg(test)]
 mod insert_tests;
+mod join;
+#[cfg(test)]
+mod join_tests;
 mod keys;
 mod list;
 #[cfg(test)]
@@ -46,6 +49,7 @@ mod upper_bound;
 pub use buckets::{translate_bucket, translate_bucket_will_fit, MAX_ENTRIES};
 pub use cuts::{insert_pivot, split_left, split_right};
 pub use entry::ENTRY_SIZE;
+pub use join::join;
 pub use keys::{change_prefix, compare, entry_key, pivot_key};
 pub use list::list_table;
 pub use pairs::{apply_pair, compose_pairs, reverse_pair, PAIR_SIZE};

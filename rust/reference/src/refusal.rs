@@ -1,4 +1,5 @@
-//! The twelve refusals. Each call has an order of its causes, in which 11 and 12 come after 5.
+//! The thirteen refusals. Each call has an order of its causes, in which 13 comes after 4, and 11
+//! and 12 come after 5.
 
 #[derive(Clone, Copy, Debug, PartialEq, Eq)]
 pub enum Refusal {
@@ -14,6 +15,7 @@ pub enum Refusal {
     NoRoom = 10,
     AlreadyPivot = 11,
     TooManyPivots = 12,
+    NotMeeting = 13,
 }
 
 impl Refusal {

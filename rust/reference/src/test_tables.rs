@@ -31,6 +31,12 @@ pub fn t() -> (Vec<u8>, Vec<u8>) {
     (pivots, [record(&[0x43]), no_edge()].concat())
 }
 
+/// So many pivots of two bytes, two apart, and this edge in every slot.
+pub fn many(count: u8, edge: Vec<u8>) -> (Vec<u8>, Vec<u8>) {
+    let pivots = (0..count).flat_map(|i| record(&[0x41, 2 * i]));
+    (pivots.collect(), edge.repeat(usize::from(count) - 1))
+}
+
 /// The absent pair.
 pub fn absent() -> Vec<u8> {
     vec![0; PAIR_SIZE]

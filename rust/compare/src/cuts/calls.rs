@@ -15,10 +15,10 @@ pub static CALLS: [&Call; 5] = [
     &TRANSLATE,
 ];
 
-const DESTS: &[&str] = &["dest_pivots", "dest_edges"];
+pub const DESTS: &[&str] = &["dest_pivots", "dest_edges"];
 
 /// The bytes of so many pivots, and of one edge fewer.
-fn written(pivots: u64) -> [usize; 2] {
+pub fn written(pivots: u64) -> [usize; 2] {
     [pivots, pivots - 1].map(|count| 66 * count as usize)
 }
 

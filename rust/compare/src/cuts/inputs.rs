@@ -134,11 +134,17 @@ fn neighbour(key: &mut [u8], change: u8) {
     }
 }
 
-/// A well-formed table of 2 to 64 pivots, most with few. Keys and edges are often so long that a
-/// cut edge or a translated key has nearly 64 bytes, or a few more.
+/// A well-formed table of 2 to 64 pivots, most with few.
 pub fn good_table(random: &mut Xorshift) -> Table {
     let limit = if random.one_in(8) { 63 } else { 5 };
     let pivots = 2 + random.below(limit);
+    good_table_of(random, pivots)
+}
+
+/// A table of so many pivots, or of fewer where their keys leave no room for more, that is well
+/// formed as far as it has at most 64. Keys and edges are often so long that a cut edge or a
+/// translated key has nearly 64 bytes, or a few more.
+pub fn good_table_of(random: &mut Xorshift, pivots: usize) -> Table {
     let to_max = random.one_in(4);
     let mut table = Table::new(rising_keys(random, pivots - usize::from(to_max)), to_max);
     for slot in 0..table.slots() {

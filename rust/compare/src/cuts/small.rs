@@ -67,6 +67,24 @@ pub fn each_edges(table: &mut Table, edges: &[&[u8]], mut body: impl FnMut(&Tabl
     }
 }
 
+/// All small tables that are well formed, with edges at the limit or none, and each small key with
+/// all of them.
+pub fn each_good(mut body: impl FnMut(&Table, &[u8], &[Vec<u8>])) {
+    let edges: [&[u8]; 2] = [&[0x44; 63], &[0x45; 64]];
+    for shared in SHARED {
+        let keys = keys_after(shared);
+        for mut table in tables(shared) {
+            each_edges(&mut table, &edges, |table| {
+                if joistdenim::wf_edges(&table.pivots, &table.edges).is_ok() {
+                    for key in &keys {
+                        body(table, key, &keys);
+                    }
+                }
+            });
+        }
+    }
+}
+
 /// Every small key in every small table with every choice of edges: some are refused with 4, and
 /// 63 and 64 bytes are where a byte more is taken and refused.
 pub fn all_keys(group: &mut Group, call: &Call) {

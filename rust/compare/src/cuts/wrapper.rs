@@ -5,43 +5,21 @@ use crate::dests::dests_around;
 use crate::group::Group;
 use crate::inputs::Xorshift;
 use crate::table_inputs::{usual_edges, usual_pivots};
-use crate::wrapper::{into_both, same};
+use crate::wrapper::{into_both, two_into_both};
 
 const SEED: u64 = 20_280_627;
 
-/// The result of a cut, and what it leaves in both destinations and around them.
-fn into_two<R>(dests: [usize; 2], call: impl Fn(&mut [u8], &mut [u8]) -> R) -> (R, [Vec<u8>; 2]) {
-    let [mut first, mut second] = dests.map(|len| vec![7; len + 16]);
-    let result = call(&mut first[8..8 + dests[0]], &mut second[8..8 + dests[1]]);
-    (result, [first, second])
-}
-
-/// One cut of the wrapper and of the reference.
-macro_rules! both {
-    ($group:ident, $slices:ident, $dests:ident, $call:ident) => {{
-        let [p, e, k] = $slices;
-        let (got, left) = into_two($dests, |dest_pivots, dest_edges| {
-            joistdenim::$call(p, e, k, dest_pivots, dest_edges)
-        });
-        let (wanted, right) = into_two($dests, |dest_pivots, dest_edges| {
-            reference::$call(p, e, k, dest_pivots, dest_edges)
-        });
-        same($group, stringify!($call), &$slices, got, wanted);
-        same($group, stringify!($call), &$slices, Ok(left), Ok(right));
-    }};
-}
-
 fn each_call(group: &mut Group, slices: [&[u8]; 3]) {
+    let [p, e, k] = slices;
     for dests in dests_around(&SPLIT_LEFT, &slices) {
-        both!(group, slices, dests, split_left);
+        two_into_both!(group, dests, split_left(p, e, k));
     }
     for dests in dests_around(&SPLIT_RIGHT, &slices) {
-        both!(group, slices, dests, split_right);
+        two_into_both!(group, dests, split_right(p, e, k));
     }
     for dests in dests_around(&INSERT_PIVOT, &slices) {
-        both!(group, slices, dests, insert_pivot);
+        two_into_both!(group, dests, insert_pivot(p, e, k));
     }
-    let [p, e, k] = slices;
     for [dest, _] in dests_around(&TRANSLATE_KEY, &slices) {
         into_both!(group, dest, translate_key(p, e, k));
     }

@@ -4,18 +4,12 @@ use crate::cuts::calls::INSERT_PIVOT;
 use crate::cuts::inputs::edge_record;
 use crate::dests::around;
 use crate::group::Group;
-use crate::inputs::record;
-use crate::table_inputs::{rising, with};
-
-/// So many edges, each another one.
-fn edges(count: u8) -> Vec<u8> {
-    (0..count).flat_map(|i| record(&[0x50, i])).collect()
-}
+use crate::table_inputs::{distinct, rising, with};
 
 /// Into each slot of 63 pivots with each sort of edge: keys of which the left half's range goes on,
 /// the right half's, and the left half's by the whole of its pivot.
 pub fn each_slot(group: &mut Group) {
-    let (pivots, others) = (rising(63), edges(62));
+    let (pivots, others) = (rising(63), distinct(62));
     let sorts: [Option<&[u8]>; 5] = [
         None,
         Some(&[]),
@@ -37,7 +31,7 @@ pub fn each_slot(group: &mut Group) {
 /// Each pivot of 63 and of 64, and a key behind it.
 pub fn each_pivot(group: &mut Group) {
     for count in [63, 64] {
-        let (pivots, edges) = (rising(count), edges(count as u8 - 1));
+        let (pivots, edges) = (rising(count), distinct(count - 1));
         for place in 0..count {
             let pivot = 3 * place as u8;
             for key in [&[0x41, pivot][..], &[0x41, pivot, 0]] {

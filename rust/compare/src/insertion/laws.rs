@@ -1,9 +1,9 @@
 //! Laws of the archive's own answers: what an insertion leaves translates as the table did and is
 //! cut as the table is, and it is refused with 8 exactly where a cut at the key is.
 use crate::call::Hex;
-use crate::cuts::inputs::{good_table, key_near, keys_after, Table};
+use crate::cuts::inputs::{good_table, key_near, Table};
 use crate::cuts::records::Records;
-use crate::cuts::small::{each_edges, tables, SHARED};
+use crate::cuts::small::each_good;
 use crate::group::Group;
 use crate::inputs::{field_record, record, Xorshift, MAX};
 use joistdenim::{split_left, split_right};
@@ -120,19 +120,7 @@ fn laws(group: &mut Group, tally: &mut Tally, table: &Table, key: &[u8], keys: &
 /// and all small keys translated.
 pub fn small(group: &mut Group) {
     let mut tally = Tally::default();
-    let edges: [&[u8]; 2] = [&[0x44; 63], &[0x45; 64]];
-    for shared in SHARED {
-        let keys = keys_after(shared);
-        for mut table in tables(shared) {
-            each_edges(&mut table, &edges, |table| {
-                if joistdenim::wf_edges(&table.pivots, &table.edges).is_ok() {
-                    for key in &keys {
-                        laws(group, &mut tally, table, key, &keys);
-                    }
-                }
-            });
-        }
-    }
+    each_good(|table, key, keys| laws(group, &mut tally, table, key, keys));
     tally.check(group);
 }
 

@@ -79,9 +79,18 @@ pub fn each_fault(mut body: impl FnMut(Vec<u8>)) {
     }
 }
 
-/// Every edge of 63 in turn, over pivots that share a prefix and over pivots that share none, in
-/// a call of pivots and edges, and of a key that both tables have.
+/// Every edge of 63 in turn, in a call of pivots and edges, and of a key that both tables have.
 pub fn each_edge(group: &mut Group, call: &Call) {
+    each_edge_of_63(|pivots, edges| {
+        let slices: [&[u8]; 3] = [pivots, edges, &[0x41, 0x5E]];
+        let slices = &slices[..call.arguments.len()];
+        group.case(call, &Asked::with_dests(slices, [64 * 66; MOST_DESTS]));
+    });
+}
+
+/// Each sort of edge in every slot of 63, over pivots that share a prefix and over pivots that
+/// share none.
+pub fn each_edge_of_63(mut body: impl FnMut(&[u8], &[u8])) {
     let apart: Vec<[u8; 1]> = (0..64).map(|i| [4 * i]).collect();
     let apart: Vec<&[u8]> = apart.iter().map(|key| &key[..]).collect();
     for pivots in [rising(64), table(&apart)] {
@@ -93,10 +102,7 @@ pub fn each_edge(group: &mut Group, call: &Call) {
                 field_record(65),
             ];
             for edge in edges {
-                let edges = with(&absent(63), place, &edge);
-                let slices: [&[u8]; 3] = [&pivots, &edges, &[0x41, 0x5E]];
-                let slices = &slices[..call.arguments.len()];
-                group.case(call, &Asked::with_dests(slices, [64 * 66; MOST_DESTS]));
+                body(&pivots, &with(&absent(63), place, &edge));
             }
         }
     }

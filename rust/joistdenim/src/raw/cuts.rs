@@ -1,4 +1,4 @@
-//! The cuts of a table, a new pivot in it, and the translation of a key.
+//! The cuts of a table, a new pivot in it, two tables put together, and the translation of a key.
 
 extern "C" {
     pub fn jd_split_left(
@@ -36,6 +36,22 @@ extern "C" {
         edges_len: usize,
         key: *const u8,
         key_len: usize,
+        dest_pivots: *mut u8,
+        dest_pivots_len: usize,
+        dest_edges: *mut u8,
+        dest_edges_len: usize,
+        written: *mut u64,
+    ) -> u32;
+
+    pub fn jd_join(
+        first_pivots: *const u8,
+        first_pivots_len: usize,
+        first_edges: *const u8,
+        first_edges_len: usize,
+        second_pivots: *const u8,
+        second_pivots_len: usize,
+        second_edges: *const u8,
+        second_edges_len: usize,
         dest_pivots: *mut u8,
         dest_pivots_len: usize,
         dest_edges: *mut u8,
