@@ -14,14 +14,14 @@ use Rattle.model.specs.records.Record.{lengthField, keyBytes, element, maxMark}
 use Rattle.model.proofs.keys.Order.{lt-lte}
 
 -- -1, 0 and 1 fit a signed number
+pub sign-fits : (s t : Bool) → SFits w64 (cond s (negsuc 0) (cond t (pos 1) (pos 0)))
+sign-fits true t = record { sfits = lit< tt }
+sign-fits false true = record { sfits = lit< tt }
+sign-fits false false = record { sfits = lit< tt }
+
 cmp-fits : (a b : Element) → SFits w64 (cmp a b)
 unfolding cmp
-cmp-fits a b = go (lt a b) (lt b a)
-  where
-    go : (s t : Bool) → SFits w64 (cond s (negsuc 0) (cond t (pos 1) (pos 0)))
-    go true t = record { sfits = lit< tt }
-    go false true = record { sfits = lit< tt }
-    go false false = record { sfits = lit< tt }
+cmp-fits a b = sign-fits (lt a b) (lt b a)
 
 -- so an order that is passed on is kept
 pub passed-on : (a b : Element) (z : ℤ) → z ≡ cmp a b → toZ w64 (ofZ w64 z) ≡ cmp a b

@@ -1,3 +1,4 @@
 pub mod KeyOf
 pub mod Elements
+pub mod Padded
 pub mod Changing

@@ -1,13 +1,15 @@
 // Keys and order: comparing elements, the key of a record or an entry, changing a prefix.
-// No public function has a `requires`.
+// No call has a `requires`; of the leaves for other crates `compare_padded` has one.
 mod change;
 mod order;
 mod read;
 
 pub use change::change_prefix;
+pub use change::change_prefix_small;
 pub use order::compare;
 pub use order::compare_elements;
 pub use order::compare_keys;
+pub use order::compare_padded;
 pub use order::is_below;
 pub use order::passes;
 pub use read::entry_key;

@@ -6,12 +6,13 @@ ghost use mathlib.Core.Path.{_≡_};
 ghost use Rattle.model.specs.keys.Order.{key, lt, cmp, passes};
 ghost use Rattle.model.specs.records.Record.{element};
 ghost use Rattle.model.specs.calls.KeyCalls.{compareAnswer};
+ghost use Rattle.keys.specs.Padded.{Padded, ordered};
 
-// The order of two keys: -1, 0 or 1.
-pub fn compare_keys(a: &[u8], b: &[u8]) -> i64
+// The order of two keys by single bytes.
+fn compare_bytes(a: &[u8], b: &[u8]) -> i64
     ensures { λ r. ⌜ r ≡ cmp (key (now (a .entry))) (key (now (b .entry))) ⌝ }
 {
-    let n = scan::common_run(a, b);
+    let n = scan::count_bytes(a, b);
     if a.len() <= n {
         if b.len() <= n {
             return 0;
@@ -25,6 +26,18 @@ pub fn compare_keys(a: &[u8], b: &[u8]) -> i64
         return -1;
     }
     1
+}
+
+// The order of two keys: -1, 0 or 1. Whole words first, then the last few bytes.
+pub fn compare_keys(a: &[u8], b: &[u8]) -> i64
+    ensures { λ r. ⌜ r ≡ cmp (key (now (a .entry))) (key (now (b .entry))) ⌝ }
+{
+    let order = scan::order_words(a, b);
+    if order != 0 {
+        return order;
+    }
+    let n = scan::least(a.len(), b.len()) / 8 * 8;
+    compare_bytes(&a[n..], &b[n..])
 }
 
 // The order of what two records stand for, whatever their bytes after the key: -1, 0 or 1.
@@ -43,6 +56,40 @@ pub fn compare_elements(a: &[u8], b: &[u8]) -> i64
     compare_keys(records::key_bytes(a), records::key_bytes(b))
 }
 
+// The order of two length fields.
+fn compare_fields(x: u16, y: u16) -> i64
+    ensures { λ r. ⌜ r ≡ ordered x y ⌝ }
+{
+    if x < y {
+        return -1;
+    }
+    if y < x {
+        return 1;
+    }
+    0
+}
+
+// The order of what two records stand for that are read as elements. The zeros after a key let both be compared by words
+// to their end; where the words agree, or one is max, the length fields decide.
+pub fn compare_padded(a: &[u8], b: &[u8]) -> i64
+    requires { ⌜ Padded (now a) × Padded (now b) ⌝ }
+    ensures { λ r. ⌜ r ≡ cmp (element (now (a .entry))) (element (now (b .entry))) ⌝ }
+{
+    let x = records::length_field(a);
+    let y = records::length_field(b);
+    if 64 < x {
+        return compare_fields(x, y);
+    }
+    if 64 < y {
+        return compare_fields(x, y);
+    }
+    let order = scan::order_words(&a[2..], &b[2..]);
+    if order != 0 {
+        return order;
+    }
+    compare_fields(x, y)
+}
+
 // cmp: the order of two elements, -1, 0 or 1. Refuses 1 and 2.
 pub fn compare(a: &[u8], b: &[u8]) -> Compared
     ensures { λ r. ⌜ r ≡ compareAnswer (now (a .entry)) (now (b .entry)) ⌝ }
@@ -59,7 +106,7 @@ pub fn compare(a: &[u8], b: &[u8]) -> Compared
     if !records::holds_element(b) {
         return Compared::Refused(Refusal::Malformed);
     }
-    Compared::Order(compare_elements(a, b))
+    Compared::Order(compare_padded(a, b))
 }
 
 // Whether what a record stands for is not above the key k or, where strict, below it.

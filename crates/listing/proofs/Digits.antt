@@ -1,10 +1,10 @@
--- The digits of numbers and keys, and the loop that writes them.
-use mathlib.Core.Path.{_≡_, refl, sym, ap, _∙_}
+-- The digits of numbers and keys, and the loops that write them.
+use mathlib.Core.Path.{_≡_, refl, sym, _∙_}
 use mathlib.Core.List.{List, [], _∷_, _++_}
 use Prim.Native.Nat.{ℕ, zero, suc, _+_, _*_, _/_, _%_, _≤_, _<_, min}
 use native.Mathlib.Omega.{arith}
 use borrow.Author.Tests.{lt-ltb, le-ltb}
-use lib.ListN.{length, take, drop, getD, set}
+use lib.ListN.{length, take, drop, getD, set, length-set}
 use Rattle.model.specs.keys.Key.{Key}
 use Rattle.model.specs.inner.Written.{into}
 use Rattle.model.specs.list.ShelfList.{digit, hex}
@@ -57,18 +57,41 @@ module _ (k : Key) (i b r : ℕ) (e : b ≡ getD k (i / 2) 0) (h : i < length k 
       let l : i / 2 < length k = omega arith in
       f ∙ rw (e, ← second-digit k (i / 2) l, g)
 
--- ---- the loop that writes them
+-- ---- the loops that write them
 
 pub hex-length : (k : Key) → length k * 2 ≡ length (hex k)
 hex-length k = sym (length-hex k)
 
-pub hex-room : (k : Key) (n : ℕ) → n ≤ length k * 2 → n ≤ length (hex k)
-hex-room k n h = omega (arith, length-hex k)
+module _ (k : Key) (d₀ d : List ℕ) (i : ℕ) (h : d ≡ take i (hex k) ++ drop i d₀) where
+  hex-turn : (v : ℕ) → v ≡ getD (hex k) i 0 → i < length k * 2 → i < length d₀ → set d i v ≡ take (i + 1) (hex k) ++ drop (i + 1) d₀
+  hex-turn v e p q = rw e (copy-turn (hex k) d₀ d i (i + 1) h (omega arith) (omega (arith, length-hex k)) (omega arith))
 
-module _ (k : Key) (d₀ d : List ℕ) (i n : ℕ) (h : d ≡ take i (hex k) ++ drop i d₀) where
-  pub hex-turn : (v : ℕ) → v ≡ getD (hex k) i 0 → i < n → n ≤ length (hex k) → n ≤ length d₀
+  hex-end : i ≡ min (length k * 2) (length d₀) → d ≡ into (hex k) d₀
+  hex-end e = copy-end (hex k) d₀ d i i h (omega arith) (omega arith) (omega (arith, length-hex k))
+
+  -- a digit a turn, where not all have room
+  pub clipped-turn : (v : ℕ) → v ≡ getD (hex k) i 0 → i < length d → length d ≡ length d₀ → length d₀ < length k * 2
       → set d i v ≡ take (i + 1) (hex k) ++ drop (i + 1) d₀
-  hex-turn v e p q r = rw e (copy-turn (hex k) d₀ d i n h p q r)
+  clipped-turn v e p q r = hex-turn v e (omega arith) (omega arith)
 
-  pub hex-end : i ≤ n → n ≤ i → n ≡ min (length k * 2) (length d₀) → d ≡ into (hex k) d₀
-  hex-end p q e = copy-end (hex k) d₀ d i n h p q (e ∙ ap (λ (m : ℕ). min m (length d₀)) (hex-length k))
+  pub clipped-end : i ≤ length d₀ → length d ≤ i → length d ≡ length d₀ → length d₀ < length k * 2 → d ≡ into (hex k) d₀
+  clipped-end p q e r = hex-end (omega arith)
+
+-- both digits of a byte a turn, where all have room
+module _ (k : Key) (d₀ d : List ℕ) (i : ℕ) (r : length k * 2 ≤ length d₀) where
+  pub pair-room : (v : ℕ) → i < length k → length d ≡ length d₀ → 2 * i + 1 < length (set d (2 * i) v)
+  pair-room v p e = rw length-set (omega arith)
+
+  pub pair-turn : (b v w : ℕ) → d ≡ take (2 * i) (hex k) ++ drop (2 * i) d₀ → b ≡ getD k i 0 → v ≡ digit (b / 16) → w ≡ digit (b % 16)
+      → i < length k → set (set d (2 * i) v) (2 * i + 1) w ≡ take (2 * (i + 1)) (hex k) ++ drop (2 * (i + 1)) d₀
+  pair-turn b v w h e f g p =
+      let t : 2 * i ≡ i * 2 = omega arith in
+      let u : 2 * i + 1 ≡ suc (i * 2) = omega arith in
+      let x : 2 * (i + 1) ≡ 2 * i + 1 + 1 = omega arith in
+      let f′ : v ≡ getD (hex k) (2 * i) 0 = f ∙ rw (e, t, first-digit k i p) in
+      let g′ : w ≡ getD (hex k) (2 * i + 1) 0 = g ∙ rw (e, u, second-digit k i p) in
+      let once = hex-turn k d₀ d (2 * i) h v f′ (omega arith) (omega arith) in
+      rw x (hex-turn k d₀ (set d (2 * i) v) (2 * i + 1) once w g′ (omega arith) (omega arith))
+
+  pub pair-end : d ≡ take (2 * i) (hex k) ++ drop (2 * i) d₀ → i ≤ length k → length k ≤ i → d ≡ into (hex k) d₀
+  pair-end h p q = hex-end k d₀ d (2 * i) h (omega arith)

@@ -35,6 +35,32 @@ fn hex_digit(k: &[u8], i: usize) -> u8
     digit_of(b % 16)
 }
 
+// The digits of a key, where there is room for all: both of a byte in one turn, which the compiler makes vector code of.
+fn hex_pairs(k: &[u8], dest: &mut [u8])
+    requires { ⌜ length (now k) * 2 ≤ length (now dest) ⌝ }
+    ensures { λ _. ⌜ now (dest .exit) ≡ into (hex (now (k .entry))) (now (dest .entry)) ⌝ }
+{
+    let mut i = 0;
+    while i < k.len() {
+        let b = wide(k[i]);
+        dest[2 * i] = digit_of(b / 16);
+        dest[2 * i + 1] = digit_of(b % 16);
+        i += 1;
+    }
+}
+
+// As many digits of a key as dest has room for, where it has none for all: the last may be a byte's first one alone.
+fn hex_clipped(k: &[u8], dest: &mut [u8])
+    requires { ⌜ length (now dest) < length (now k) * 2 ⌝ }
+    ensures { λ _. ⌜ now (dest .exit) ≡ into (hex (now (k .entry))) (now (dest .entry)) ⌝ }
+{
+    let mut i = 0;
+    while i < dest.len() {
+        dest[i] = hex_digit(k, i);
+        i += 1;
+    }
+}
+
 // The digits of a key.
 fn hex_text(k: &[u8], dest: &mut [u8]) -> usize
     requires { ⌜ length (now k) ≤ 64 ⌝ }
@@ -42,12 +68,11 @@ fn hex_text(k: &[u8], dest: &mut [u8]) -> usize
     ensures written { λ r. ⌜ now (dest .exit) ≡ into (hex (now (k .entry))) (now (dest .entry)) ⌝ }
 {
     let len = k.len() * 2;
-    let n = scan::least(len, dest.len());
-    let mut i = 0;
-    while i < n {
-        dest[i] = hex_digit(k, i);
-        i += 1;
+    if dest.len() < len {
+        hex_clipped(k, dest);
+        return len;
     }
+    hex_pairs(k, dest);
     len
 }
 

@@ -1,4 +1,5 @@
 pub mod CommonRun
 pub mod Order
+pub mod Parts
 pub mod Key
 pub mod ChangePrefix

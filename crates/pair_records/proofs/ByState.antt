@@ -6,13 +6,12 @@ use lib.ListN.{length, getD}
 use Rattle.model.specs.declared.Refusal.{Refusal}
 use Rattle.model.specs.declared.Answer.{Answer}
 use Rattle.model.specs.declared.Answer.the-variants as answers
-use Rattle.model.specs.keys.Key.{Key}
 use Rattle.model.specs.translation.PrefixSet.{RevPrefixSet, ComposePrefixSet}
 use Rattle.model.specs.translation.PairState.{PairState}
 use Rattle.model.specs.translation.PairRecord.{stateAt, pairAt}
 use Rattle.model.specs.calls.Refusals.{outcome}
-use Rattle.model.specs.calls.PairCalls.{reverseCauses, reverseAnswer, reversePair, applyAnswer, applyLeaves, composeCauses, composeAnswer, composePair}
-use Rattle.model.specs.calls.PairRecordCalls.{pairRoom, reversePairCauses, reversePairAnswer, reversePairLeaves, applyPairAnswer, applyPairLeaves, composePairsCauses, composePairsAnswer, composePairsLeaves}
+use Rattle.model.specs.calls.PairCalls.{reverseCauses, reverseAnswer, reversePair, composeCauses, composeAnswer, composePair}
+use Rattle.model.specs.calls.PairRecordCalls.{pairRoom, reversePairCauses, reversePairAnswer, reversePairLeaves, composePairsCauses, composePairsAnswer, composePairsLeaves}
 use Rattle.pair_records.specs.Placed.{placedAnswer, placedLeaves}
 use Rattle.pair_records.proofs.Reading.{sized, flagged}
 use Rattle.pair_records.proofs.Placing.{placed-answer, placed-written}
@@ -34,16 +33,6 @@ module _ (b d : List ℕ) (s : PairState) (e : s ≡ stateAt b) (h : length b �
     pub reverse-written : (z : PairState) (w : List ℕ) → z ≡ reversePair s → w ≡ placedLeaves a z d → w ≡ reversePairLeaves b d
     reverse-written z w g u =
         placed-written (reverseCauses (stateAt b)) (RevPrefixSet (pairAt b)) d a at-record z w (rw e at g) u ∙ reverse-causes (λ (_ : Refusal). d) _
-
-  -- apply: the pair's own call
-  module _ (k : Key) where
-    pub apply-answered : (x : Answer) → x ≡ applyAnswer s k d → x ≡ applyPairAnswer b k d
-    unfolding outcome
-    apply-answered x y = rw (sized b h, flagged b i) (rw e at y)
-
-    pub apply-written : (w : List ℕ) → w ≡ applyLeaves s k d → w ≡ applyPairLeaves b k d
-    unfolding outcome
-    apply-written w y = rw (sized b h, flagged b i) (rw e at y)
 
 -- two such records
 module _ (b c d : List ℕ) (s t : PairState) (e : s ≡ stateAt b) (f : t ≡ stateAt c) (h : length b ≡ 133) (j : length c ≡ 133)

@@ -1,3 +1,4 @@
+pub mod Applying
 pub mod ByState
 pub mod Lengths
 pub mod Placing

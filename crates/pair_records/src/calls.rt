@@ -2,7 +2,9 @@
 use crate::record::PAIR_SIZE;
 use crate::record::place;
 use crate::record::read_pair;
+use crate::record::wide;
 use model::Answer;
+use model::MAX_LEN;
 use model::Refusal;
 ghost use mathlib.Core.Path.{_≡_};
 ghost use Rattle.model.specs.calls.PairRecordCalls.{reversePairAnswer, reversePairLeaves, applyPairAnswer, applyPairLeaves, composePairsAnswer, composePairsLeaves, translatePairAnswer, translatePairLeaves};
@@ -34,7 +36,21 @@ pub fn apply_pair(pair: &[u8], key: &[u8], dest: &mut [u8]) -> Answer
     if 1 < pair[0] {
         return Answer::Refused(Refusal::Malformed);
     }
-    read_pair(pair).apply(key, dest)
+    if pair[0] == 0 {
+        // an absent pair, ε changed to ε: the key itself
+        return keys::change_prefix(key, &key[..0], &key[..0], dest);
+    }
+    let n = wide(records::length_field(&pair[1..]));
+    let m = wide(records::length_field(&pair[3..]));
+    if MAX_LEN < n {
+        return Answer::Refused(Refusal::Malformed);
+    }
+    if MAX_LEN < m {
+        return Answer::Refused(Refusal::Malformed);
+    }
+    let p = 5 + n;
+    let q = 69 + m;
+    keys::change_prefix(key, &pair[5..p], &pair[69..q], dest)
 }
 
 // ComposePrefixSet: the pair that undoes b and then does a, at the head of dest. Answers 1 where it is there, 0 where it

@@ -16,7 +16,7 @@ ghost use Rattle.pair_records.specs.Placed.{placedAnswer, placedLeaves};
 // A record's size: the flag, the length fields at 1 and 3, the arrays at 5 and 69.
 pub(crate) const PAIR_SIZE: usize = 133;
 
-fn wide(x: u16) -> usize
+pub(crate) fn wide(x: u16) -> usize
     ensures { λ r. ⌜ r ≡ x ⌝ }
 {
     x as usize

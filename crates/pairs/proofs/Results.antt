@@ -1,16 +1,18 @@
 -- What the methods of a pair return, by its state.
 use mathlib.Core.Path.{_≡_, refl, _∙_}
 use mathlib.Core.Bool.{Bool, true, false, not, or-comm, or-false}
-use mathlib.Core.List.{List, _∷_}
+use mathlib.Core.List.{List, _∷_, map}
 use mathlib.Core.Option.{Option, none, some}
 use Prim.Native.Nat.{ℕ, _≤_}
 use native.Mathlib.Omega.{arith}
+use borrow.Author.Needs.{length-unmapped}
 use lib.ListN.{length, take}
 use Rattle.model.specs.declared.Refusal.{Refusal}
 use Rattle.model.specs.declared.Refusal.the-variants.{Malformed}
 use Rattle.model.specs.declared.Answer.{Answer}
 use Rattle.model.specs.declared.Answer.the-variants as answers
 use Rattle.model.specs.keys.Key.{Key, tooLong, IsPrefix, changePrefix}
+use Rattle.model.specs.records.Record.{padded}
 use Rattle.model.specs.inner.Written.{clipped}
 use Rattle.model.specs.translation.PrefixSet.{PrefixSet, pair, RevPrefixSet, Begins, ApplyPrefixSet, Composable, ComposePrefixSet, longPair}
 use Rattle.model.specs.translation.PairState.{PairState, notPair, pairOf, stateOf}
@@ -20,7 +22,7 @@ use Rattle.model.specs.calls.PairCalls.{thereNumber, pairAnswer, pairBeside, ch
 use Rattle.model.proofs.Lists.{clipped-all}
 use Rattle.model.proofs.calls.Refusals.{passed}
 use Rattle.model.proofs.calls.TableCalls.{not-too-long}
-use Rattle.pairs.proofs.States.{told-false, absent-of, there-of, Short, short-pair}
+use Rattle.pairs.proofs.States.{told-false, heads-are, absent-of, there-of, Short, lengths, short-pair}
 
 -- the prefixes of a state that is there
 abbrev oldPart : PairState → Key
@@ -51,11 +53,16 @@ module _ (s : PairState) (t : Bool) (e : t ≡ notPair s) (f : t ≡ false) wher
     unfolding outcome RevPrefixSet thereNumber
     reverse-there x h = rw (right, there-of s g) h
 
-    pub reverse-pair : (z : PairState) → z ≡ stateOf (pair (clipped (newPart s)) (clipped (oldPart s))) → z ≡ reversePair s
+    pub reverse-pair : (v w : List ℕ) (z : PairState) → length (map (λ (b : ℕ). b) (s .oldBytes)) ≡ 64 → length (map (λ (b : ℕ). b) (s .newBytes)) ≡ 64
+        → v ≡ padded (newPart s) → w ≡ padded (oldPart s)
+        → z ≡ record { there = true; oldLength = s .newLength; newLength = s .oldLength; oldBytes = v; newBytes = w } → z ≡ reversePair s
     unfolding outcome RevPrefixSet
-    reverse-pair z h =
-        let l = short-pair s right g in
-        rw (right, there-of s g) (rw (clipped-all (newPart s) (l .new), clipped-all (oldPart s) (l .old)) at h)
+    reverse-pair v w z a b c d h =
+        let l = lengths s right g in
+        rw (right, there-of s g)
+        (h
+        ∙ heads-are (s .newBytes) (s .oldBytes) v w (s .newLength) (s .oldLength)
+        (omega (arith, length-unmapped ℕ (s .newBytes) 64 b)) (omega (arith, length-unmapped ℕ (s .oldBytes) 64 a)) c d)
 
 -- ---- apply
 

@@ -13,6 +13,7 @@ use Rattle.model.specs.records.Record.{padded}
 use Rattle.model.specs.inner.Written.{clipped}
 use Rattle.model.specs.translation.PrefixSet.{pair}
 use Rattle.model.specs.translation.PairState.{PairState, notPair, pairOf, stateWith, stateOf}
+use Rattle.model.proofs.Lists.{part-counts}
 
 -- ---- the test
 
@@ -55,6 +56,12 @@ pair-is p q v w n m a b c d =
     let x : n ≡ length (take 64 p) = rw length-take (omega arith) in
     let y : m ≡ length (take 64 q) = rw length-take (omega arith) in
     cc
+
+-- the heads of two arrays, each in an array of its own, are a pair that is there
+pub heads-are : (a b v w : List ℕ) (n m : ℕ) → n ≤ length a → m ≤ length b → v ≡ padded (take n a) → w ≡ padded (take m b)
+    → _≡_ {A = PairState} (record { there = true; oldLength = n; newLength = m; oldBytes = v; newBytes = w }) (stateOf (pair (take n a) (take m b)))
+unfolding stateOf stateWith
+heads-are a b v w n m x y c d = cc (part-counts n a x, part-counts m b y)
 
 -- a state that is not there stands for the absent pair
 pub absent-of : (s : PairState) → not (s .there) ≡ true → pairOf s ≡ none
@@ -104,9 +111,9 @@ module _ (y t : Bool) (n m : ℕ) (a b : List ℕ)
   pub new-inside : (c : List ℕ) → length (map (λ (v : ℕ). v) c) ≡ 64 → m ≤ length c
   new-inside c i = let s = short in omega (arith, length-unmapped ℕ c 64 i)
 
-  -- and have at most 64 bytes
-  pub old-short : length (take n a) ≤ 64
-  old-short = short-pair _ (told-false t _ e f) g .old
+  -- which are at most 64
+  pub old-short : n ≤ 64
+  old-short = short .old
 
-  pub new-short : length (take m b) ≤ 64
-  new-short = short-pair _ (told-false t _ e f) g .new
+  pub new-short : m ≤ 64
+  new-short = short .new

@@ -5,9 +5,11 @@ mod pad;
 use compose::beside;
 use compose::composed;
 use compose::made;
+use compose::there;
 use model::Answer;
 use model::MAX_LEN;
 use model::Refusal;
+use pad::cleared;
 pub use pad::padded;
 ghost use mathlib.Core.Path.{_≡_};
 ghost use mathlib.Core.Option.{none};
@@ -93,7 +95,7 @@ impl PrefixSet {
         let new = self.new;
         let n = self.oldlen;
         let m = self.newlen;
-        made(&new[..m], &old[..n])
+        there(cleared(&new, m), m, cleared(&old, n), n)
     }
 
     // ApplyPrefixSet: the key with the old prefix changed to the new one, at the head of dest. An absent pair leaves
@@ -107,13 +109,13 @@ impl PrefixSet {
         }
         if !self.there {
             // ε changed to ε: the key itself
-            return keys::change_prefix(key, &key[..0], &key[..0], dest);
+            return keys::change_prefix_small(key, &key[..0], &key[..0], dest);
         }
         let old = self.old;
         let new = self.new;
         let n = self.oldlen;
         let m = self.newlen;
-        keys::change_prefix(key, &old[..n], &new[..m], dest)
+        keys::change_prefix_small(key, &old[..n], &new[..m], dest)
     }
 
     // ComposePrefixSet: the pair that undoes b and then does this one. Refuses 2, 7 and 8.
@@ -130,17 +132,13 @@ impl PrefixSet {
         if !self.there {
             return b.reverse();
         }
-        let ap = self.old;
-        let aq = self.new;
-        let n = self.oldlen;
-        let m = self.newlen;
         if !b.there {
-            return made(&ap[..n], &aq[..m]);
+            let old = self.old;
+            let new = self.new;
+            let n = self.oldlen;
+            let m = self.newlen;
+            return made(&old[..n], &new[..m]);
         }
-        let bp = b.old;
-        let bq = b.new;
-        let i = b.oldlen;
-        let j = b.newlen;
-        composed(&ap[..n], &aq[..m], &bp[..i], &bq[..j])
+        composed(self, b)
     }
 }

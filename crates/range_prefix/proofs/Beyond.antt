@@ -1,7 +1,7 @@
 -- The range prefix by the common run and what follows it.
 use mathlib.Core.Path.{_≡_, refl, sym, ap, _∙_}
 use mathlib.Core.Logic.{⊎-elim}
-use mathlib.Core.Bool.{Bool, true, false, cond, not, _&&_}
+use mathlib.Core.Bool.{Bool, true, false, cond, not, _&&_, Bool·not-not}
 use mathlib.Core.List.{List, [], _∷_}
 use Prim.Native.Nat.{ℕ, suc, _+_, _-_, _≤_, _<_, _^_}
 use native.Mathlib.Omega.{arith}
@@ -86,13 +86,73 @@ module _ (l r : List ℕ) (t : Bool) (p : t ≡ eqb (lengthField r) maxMark) whe
   unfolding PivotLcp element
   up-to-key k n h q e = rw (← p, h, ← q) e
 
--- what the left record stands for
+-- ---- whether there is a prefix
+
+pub no-left : (l r : Key) → length l ≡ 0 → false ≡ not (isNil (lcp l r))
+unfolding lcp
+no-left [] r h = refl
+no-left (a ∷ l) r h = absurd (omega arith)
+
+pub no-right : (l r : Key) → length r ≡ 0 → false ≡ not (isNil (lcp l r))
+unfolding lcp
+no-right [] r h = refl
+no-right (a ∷ l) [] h = refl
+no-right (a ∷ l) (b ∷ r) h = absurd (omega arith)
+
+-- two keys with a first byte each
+module _ (l r : Key) (h : length l ≡ 0 → ⊥) (k : length r ≡ 0 → ⊥) where
+  by-first : isNil (lcp l r) ≡ cond (eqb (getD l 0 0) (getD r 0 0)) false (not (eqb (length r) 1 && eqb (getD l 0 0 + 1) (getD r 0 0)))
+  unfolding lcp
+  by-first = go l r h k
+    where
+      go : (l r : Key) → (length l ≡ 0 → ⊥) → (length r ≡ 0 → ⊥)
+          → isNil (lcp l r) ≡ cond (eqb (getD l 0 0) (getD r 0 0)) false (not (eqb (length r) 1 && eqb (getD l 0 0 + 1) (getD r 0 0)))
+      go [] r h k = absurd (h refl)
+      go (a ∷ l) [] h k = absurd (k refl)
+      go (a ∷ l) (b ∷ []) h k = turn (eqb a b) (eqb (a + 1) b)
+        where
+          turn : (s t : Bool) → isNil (cond s (a ∷ lcp l []) (cond t (a ∷ lcpright l) [])) ≡ cond s false (not t)
+          turn true t = refl
+          turn false true = refl
+          turn false false = refl
+      go (a ∷ l) (b ∷ c ∷ r) h k = rw (ne-eqb (length (b ∷ c ∷ r)) 1 (λ e. omega arith)) (turn (eqb a b))
+        where
+          turn : (s : Bool) → isNil (cond s (a ∷ lcp l (c ∷ r)) []) ≡ cond s false true
+          turn true = refl
+          turn false = refl
+
+  pub alike : getD l 0 0 ≡ getD r 0 0 → true ≡ not (isNil (lcp l r))
+  alike e = rw (by-first, eq-eqb (getD l 0 0) (getD r 0 0) e)
+
+  module _ (d : getD l 0 0 ≡ getD r 0 0 → ⊥) where
+    pub more-than-one : (length r ≡ 1 → ⊥) → false ≡ not (isNil (lcp l r))
+    more-than-one e = rw (by-first, ne-eqb (getD l 0 0) (getD r 0 0) d, ne-eqb (length r) 1 e)
+
+    pub one-next : (t : Bool) → length r ≡ 1 → t ≡ eqb (getD l 0 0 + 1) (getD r 0 0) → t ≡ not (isNil (lcp l r))
+    one-next t e f = rw (by-first, ne-eqb (getD l 0 0) (getD r 0 0) d, e, ← f) (sym (Bool·not-not t))
+
+-- ---- and of what two records stand for
+
+-- up to max FF tells
+by-ff : (k : Key) → eqb (getD k 0 0) 255 ≡ not (isNil (lcpright k))
+unfolding lcpright
+by-ff [] = refl
+by-ff (a ∷ k) = go (eqb a 255)
+  where
+    go : (t : Bool) → t ≡ not (isNil (cond t (a ∷ lcpright k) []))
+    go true = refl
+    go false = refl
+
 module _ (l r : List ℕ) (t : Bool) (p : t ≡ eqb (lengthField l) maxMark) where
-  pub from-max : t ≡ true → 0 ≡ length (PivotLcp (element l) (element r))
+  pub from-max : t ≡ true → false ≡ not (isNil (PivotLcp (element l) (element r)))
   unfolding element PivotLcp
   from-max h = rw (← p, h)
 
-  pub from-key : (x : List ℕ) (n : ℕ) → t ≡ false → x ≡ keyBytes l → n ≡ length (PivotLcp (key x) (element r))
-      → n ≡ length (PivotLcp (element l) (element r))
-  unfolding element
-  from-key x n h e w = rw (← p, h, ← e) w
+  module _ (h : t ≡ false) (k : List ℕ) (e : k ≡ keyBytes l) (u : Bool) (q : u ≡ eqb (lengthField r) maxMark) where
+    pub between-max : (b : ℕ) → u ≡ true → b ≡ getD k 0 0 → eqb b 255 ≡ not (isNil (PivotLcp (element l) (element r)))
+    unfolding element PivotLcp
+    between-max b g f = rw (← p, ← q, h, g, ← e, f) (by-ff k)
+
+    pub between-keys : (m : List ℕ) (v : Bool) → u ≡ false → m ≡ keyBytes r → v ≡ not (isNil (lcp k m)) → v ≡ not (isNil (PivotLcp (element l) (element r)))
+    unfolding element PivotLcp
+    between-keys m v g f w = rw (← p, ← q, h, g, ← e, ← f) w

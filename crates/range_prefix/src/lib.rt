@@ -4,9 +4,11 @@ use model::MAX_LEN;
 use model::RECORD_SIZE;
 use model::Refusal;
 ghost use mathlib.Core.Path.{_≡_};
+ghost use mathlib.Core.Bool.{not};
 ghost use Prim.Native.Nat.{_+_, _≤_};
 ghost use lib.Dec.{eqb};
 ghost use lib.ListN.{length};
+ghost use Rattle.model.specs.keys.Key.{isNil};
 ghost use Rattle.model.specs.keys.Order.{key};
 ghost use Rattle.model.specs.records.Record.{element};
 ghost use Rattle.model.specs.ranges.RangePrefix.{lcp, PivotLcp};
@@ -49,14 +51,37 @@ pub fn range_prefix_len(left: &[u8], right: &[u8]) -> usize
     key_range_prefix(left, records::key_bytes(right))
 }
 
-// PivotLcp between what two records stand for.
-pub fn element_range_prefix(left: &[u8], right: &[u8]) -> usize
-    ensures { λ r. ⌜ r ≡ length (PivotLcp (element (now (left .entry))) (element (now (right .entry)))) ⌝ }
+// Whether the prefix of the range between two keys isn't empty. Their first bytes tell.
+fn has_key_prefix(left: &[u8], right: &[u8]) -> bool
+    ensures { λ r. ⌜ r ≡ not (isNil (lcp (now (left .entry)) (now (right .entry)))) ⌝ }
+{
+    if left.len() == 0 {
+        return false;
+    }
+    if right.len() == 0 {
+        return false;
+    }
+    if left[0] == right[0] {
+        return true;
+    }
+    if right.len() != 1 {
+        return false;
+    }
+    is_next(left[0], right[0])
+}
+
+// Whether PivotLcp between what two records stand for isn't empty.
+pub fn has_range_prefix(left: &[u8], right: &[u8]) -> bool
+    ensures { λ r. ⌜ r ≡ not (isNil (PivotLcp (element (now (left .entry))) (element (now (right .entry))))) ⌝ }
 {
     if records::is_max(left) {
-        return 0;
+        return false;
     }
-    range_prefix_len(records::key_bytes(left), right)
+    let k = records::key_bytes(left);
+    if records::is_max(right) {
+        return scan::byte_at(k, 0) == 255;
+    }
+    has_key_prefix(k, records::key_bytes(right))
 }
 
 // PivotLcp: the length of the prefix of the range from a key up to an element. Refuses 1 and 2.

@@ -1,11 +1,11 @@
 -- What each return of the reading functions is, from the facts that the code leaves there.
 use mathlib.Core.Path.{_≡_, refl, sym, ap, _∙_}
-use mathlib.Core.Bool.{Bool, true, false, cond}
+use mathlib.Core.Bool.{Bool, true, false, cond, not, _&&_, and-true, and-false}
 use mathlib.Core.List.{List, [], _∷_}
 use Prim.Native.Nat.{ℕ, _+_, _*_, _-_, _/_, _≤_, _<_, min}
 use native.Mathlib.Nat.{add-sub-cancel-left}
 use native.Mathlib.Omega.{arith}
-use borrow.Author.Tests.{eq-eqb, ne-eqb, le-leb, lt-leb, leb-true}
+use borrow.Author.Tests.{eq-eqb, ne-eqb, le-leb, lt-leb, leb-true, not-true, not-false}
 use lib.Dec.{eqb, leb}
 use lib.ListN.{length, take, drop, getD, length-drop, drop-of-length-le, List·getD-eq-default}
 use lib.Seq.{take-nil}
@@ -46,34 +46,54 @@ pub ruleset ways = (way-key, way-none, way-max, way-other)
 
 -- ---- the whole record
 
-tail-small : (n : ℕ) → keyLength (fieldReading n) ≤ maxLen
+module _ (r : List ℕ) (n k : ℕ) (z : Bool) (e : n ≡ lengthField r) (g : k ≡ 2 + keyLength (fieldReading n)) (p : z ≡ allZero (drop k r)) where
+  pub read-whole : (w : Reading) → w ≡ fieldReading n → z ≡ true → w ≡ reading r
+  unfolding reading
+  read-whole w f q = rw (← e, ← g, ← p, q) f
+
+  pub read-spoilt : z ≡ false → Malformed ≡ reading r
+  unfolding reading
+  read-spoilt q = rw (← e, ← g, ← p, q)
+
+-- ---- what is asked of a record's reading
+
+-- a key may stand everywhere
+pub key-stands : (n : ℕ) (noEdge max : Bool) → n < 65 → true ≡ allowed noEdge max (fieldReading n)
+key-stands n noEdge max h = ap (allowed noEdge max) (way-key n n refl h)
+
+pub told-stands : (n : ℕ) (noEdge max t : Bool) (w : Reading) → w ≡ fieldReading n → t ≡ allowed noEdge max w → t ≡ allowed noEdge max (fieldReading n)
+told-stands n noEdge max t w e h = rw (← e) h
+
+-- where the zeros begin, after a key and in a mark
+pub key-tail : (n k : ℕ) → n < 65 → k ≡ n → 2 + k ≡ 2 + keyLength (fieldReading n)
+key-tail n k h e = rw (← way-key n k e h)
+
+pub mark-tail : (n : ℕ) → 65 ≤ n → 2 ≡ 2 + keyLength (fieldReading n)
 unfolding fieldReading
-tail-small n = go (leb n maxLen) (eqb n 65534) (eqb n 65535) refl
+mark-tail n h = rw (lt-leb n maxLen (omega arith)) (go (eqb n 65534) (eqb n 65535))
   where
-    go : (s t u : Bool) → leb n maxLen ≡ s → keyLength (cond s (Key n) (cond t NoEdge (cond u Max Malformed))) ≤ maxLen
-    go true t u e = omega (arith, leb-true n maxLen e)
-    go false true u e = omega arith
-    go false false true e = omega arith
-    go false false false e = omega arith
+    go : (s t : Bool) → 2 ≡ 2 + keyLength (cond s NoEdge (cond t Max Malformed))
+    go true t = refl
+    go false true = refl
+    go false false = refl
 
-module _ (r : List ℕ) (n k : ℕ) (w : Reading) (e : n ≡ lengthField r) (f : w ≡ fieldReading n) (g : k ≡ keyLength w) where
-  at-field : w ≡ fieldReading (lengthField r)
-  at-field = f ∙ ap fieldReading e
+-- nothing is allowed where all must be zero and is not
+spoilt-fails : (noEdge max z : Bool) (w : Reading) → allowed noEdge max (cond z w Malformed) ≡ (allowed noEdge max w && z)
+spoilt-fails noEdge max true w = sym (and-true (allowed noEdge max w))
+spoilt-fails noEdge max false w = sym (and-false (allowed noEdge max w))
 
-  pub tail-fits : Fits w64 (2 + k)
-  tail-fits = record { fits = omega (arith, tail-small n, ap keyLength f) }
-
-  pub read-whole : (z : Bool) → z ≡ allZero (drop (2 + k) r) → z ≡ true → w ≡ reading r
+module _ (r : List ℕ) (n : ℕ) (noEdge max t : Bool) (e : n ≡ lengthField r) (f : t ≡ allowed noEdge max (fieldReading n)) where
+  told : allowed noEdge max (reading r) ≡ (t && allZero (drop (2 + keyLength (fieldReading n)) r))
   unfolding reading
-  read-whole z p q = rw (← at-field, ← g, ← p, q)
+  told = rw (f, e) (spoilt-fails noEdge max _ (fieldReading (lengthField r)))
 
-  pub read-spoilt : (z : Bool) → z ≡ allZero (drop (2 + k) r) → z ≡ false → Malformed ≡ reading r
-  unfolding reading
-  read-spoilt z p q = rw (← at-field, ← g, ← p, q)
+  -- a field that may not stand there
+  pub not-standing : not t ≡ true → false ≡ allowed noEdge max (reading r)
+  not-standing h = sym (told ∙ rw (not-true t h))
 
--- what is asked of a record's reading
-pub reading-told : (r : List ℕ) (w : Reading) (noEdge max t : Bool) → w ≡ reading r → t ≡ allowed noEdge max w → t ≡ allowed noEdge max (reading r)
-reading-told r w noEdge max t e h = rw (← e) h
+  -- and one that may, with what follows
+  pub standing : (k : ℕ) (z : Bool) → not t ≡ false → k ≡ 2 + keyLength (fieldReading n) → z ≡ allZero (drop k r) → z ≡ allowed noEdge max (reading r)
+  standing k z h g p = p ∙ rw g (sym (told ∙ rw (not-false t h)))
 
 -- a mark is told by the length field
 pub mark-told : (r : List ℕ) (n mark : ℕ) → n ≡ lengthField r → eqb n mark ≡ eqb (lengthField r) mark

@@ -4,6 +4,7 @@ mod read;
 mod write;
 
 pub use blocks::copy_by_blocks;
+pub use blocks::join_by_blocks;
 pub use read::field_reading;
 pub use read::holds;
 pub use read::holds_edge;

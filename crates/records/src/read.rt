@@ -38,26 +38,23 @@ pub fn field_reading(n: u16) -> Reading
     }
 }
 
-// How many bytes after the length field need not be zero.
-fn key_length(way: Reading) -> usize
-    ensures { λ r. ⌜ r ≡ keyLength way ⌝ }
+// The place in a record from which on all must be zero, by its length field.
+fn tail_of(n: u16) -> usize
+    ensures { λ r. ⌜ r ≡ 2 + keyLength (fieldReading n) ⌝ }
 {
-    match way {
-        Reading::Key(n) => n,
-        Reading::Malformed => 0,
-        Reading::NoEdge => 0,
-        Reading::Max => 0,
+    if n < 65 {
+        return 2 + wide(n);
     }
+    2
 }
 
 // What a record says.
 pub fn read_record(rec: &[u8]) -> Reading
     ensures { λ r. ⌜ r ≡ reading (now (rec .entry)) ⌝ }
 {
-    let way = field_reading(length_field(rec));
-    let tail = 2 + key_length(way);
-    if scan::zero_from(rec, tail) {
-        return way;
+    let n = length_field(rec);
+    if scan::zero_from(rec, tail_of(n)) {
+        return field_reading(n);
     }
     Reading::Malformed
 }
@@ -88,11 +85,25 @@ fn allows(way: Reading, empty: bool, max: bool) -> bool
     }
 }
 
+// Whether a length field may stand: a key's, tested first, or a mark that is allowed.
+fn stands(n: u16, empty: bool, max: bool) -> bool
+    ensures { λ r. ⌜ r ≡ allowed empty max (fieldReading n) ⌝ }
+{
+    if n < 65 {
+        return true;
+    }
+    allows(field_reading(n), empty, max)
+}
+
 // Whether a record is a key's or, where they are allowed, "no edge" or max.
 pub fn holds(rec: &[u8], empty: bool, max: bool) -> bool
     ensures { λ r. ⌜ r ≡ allowed empty max (reading (now (rec .entry))) ⌝ }
 {
-    allows(read_record(rec), empty, max)
+    let n = length_field(rec);
+    if !stands(n, empty, max) {
+        return false;
+    }
+    scan::zero_from(rec, tail_of(n))
 }
 
 // Whether a record is a key's or max.

@@ -27,5 +27,5 @@ pub(crate) fn put_joined(a: &[u8], b: &[u8], dest: &mut [u8])
     ensures { λ _. ⌜ now (dest .exit) ≡ over (recordOf (length (now (a .entry) ++ now (b .entry))) (now (a .entry) ++ now (b .entry))) (now (dest .entry)) ⌝ }
 {
     put_head(a.len() + b.len(), dest);
-    records::join(a, b, &mut dest[2..]);
+    records::join_by_blocks(a, b, &mut dest[2..]);
 }

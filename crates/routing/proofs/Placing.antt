@@ -1,10 +1,10 @@
--- The scan for the last pivot that passes, and the slot it ends in.
+-- The last pivot that passes, found by halving, and the slot it ends in.
 use mathlib.Core.Path.{_≡_, refl, sym, _∙_}
 use mathlib.Core.Bool.{Bool, true, false, not, _&&_}
 use mathlib.Core.List.{List, [], _∷_}
 use Prim.Native.Nat.{ℕ, _+_, _-_, _/_, _≤_, _<_}
 use native.Mathlib.Omega.{arith}
-use borrow.Author.Tests.{not-true, not-false, lt-ltb, le-ltb}
+use borrow.Author.Tests.{lt-ltb, le-ltb, ltb-true, ltb-false}
 use lib.Dec.{ltb}
 use lib.ListN.{length}
 use Rattle.model.specs.declared.Refusal.the-variants.{OutOfRange}
@@ -17,40 +17,46 @@ use Rattle.model.specs.inner.Places.{recordAt}
 use Rattle.model.specs.tables.Tables.{PivotTable, pivotAt, WFPivots, Route, CutoffForLeft, CutoffForRight}
 use Rattle.model.specs.calls.Refusals.{_⇒_, routing}
 use Rattle.model.proofs.calls.Refusals.{here, later, slot-done}
-use Rattle.model.proofs.tables.Places.{place-turn, place-all, place-most, bounded-place, valid-place}
+use Rattle.model.proofs.tables.Places.{place-at, place-most, bounded-place, valid-place}
 use Rattle.model.proofs.tables.Routing.{wf-sorted, wf-count}
 use Rattle.model.proofs.calls.TableCalls.{length-elements, element-at}
 use Rattle.model.specs.cuts.Sides.{inside, cutoff}
 
--- the pivots before the place i pass, by the last of them
-pub record Scan (p : List ℕ) (k : Key) (strict : Bool) (i : ℕ) : Type 0 where
-  pub within : i ≤ length p / 66
-  pub before : 0 < i → passes strict (key k) (pivotAt (elements p) (i - 1)) ≡ true
+-- the place is not before low and not after high
+pub record Between (p : List ℕ) (k : Key) (strict : Bool) (low high : ℕ) : Type 0 where
+  pub within : high ≤ length p / 66
+  pub from : low ≤ lastPlace (passes strict (key k)) (elements p)
+  pub upTo : lastPlace (passes strict (key k)) (elements p) ≤ high
 
 module _ (p : List ℕ) (k : Key) (strict : Bool) where
-  pub scan-start : Scan p k strict 0
-  scan-start = record { within = omega arith; before = λ h. absurd (omega arith) }
+  pub between-start : Between p k strict 0 (length p / 66)
+  between-start =
+      let m = place-most (passes strict (key k)) (elements p) in
+      record { within = omega arith; from = omega arith; upTo = omega (arith, length-elements p) }
 
-  module _ (i : ℕ) (w : Scan p k strict i) where
-    module _ (a : List ℕ) (t : Bool) (h : i < length p / 66) (e : a ≡ recordAt p i) (f : t ≡ passes strict (key k) (element a)) where
-      here-passes : passes strict (key k) (pivotAt (elements p) i) ≡ t
-      here-passes = rw (element-at p i h, ← e, ← f)
+  module _ (low high : ℕ) (w : Between p k strict low high) where
+    -- a pivot passes where it stands before the place, so the one in the middle tells on which side that is
+    module _ (wf : WFPivots (elements p) ≡ true) (h : low < high) (a : List ℕ) (t : Bool) (e : a ≡ recordAt p (low + (high - low) / 2))
+        (f : t ≡ passes strict (key k) (element a)) where
+      middle : t ≡ ltb (low + (high - low) / 2) (lastPlace (passes strict (key k)) (elements p))
+      middle =
+          let l : low + (high - low) / 2 < length p / 66 = omega (arith, w .within) in
+          f ∙ rw (e, ← element-at p (low + (high - low) / 2) l)
+          (place-at strict (key k) (elements p) (low + (high - low) / 2) (wf-sorted (elements p) wf) (omega (arith, length-elements p)))
 
-      pub scan-turn : not t ≡ false → Scan p k strict (i + 1)
-      scan-turn g =
-          let q : i + 1 - 1 ≡ i = omega arith in
-          record { within = omega arith; before = λ _. rw q (here-passes ∙ not-false t g) }
+      pub upper-half : t ≡ true → Between p k strict (low + (high - low) / 2 + 1) high
+      upper-half g =
+          let m = ltb-true (low + (high - low) / 2) (lastPlace (passes strict (key k)) (elements p)) (sym middle ∙ g) in
+          record { within = w .within; from = omega (arith, m); upTo = w .upTo }
 
-      pub scan-stop : WFPivots (elements p) ≡ true → not t ≡ true → i ≡ lastPlace (passes strict (key k)) (elements p)
-      scan-stop wf g =
-          sym (place-turn strict (key k) (elements p) i (wf-sorted (elements p) wf) (omega (arith, length-elements p)) (w .before)
-          (here-passes ∙ not-true t g))
+      pub lower-half : t ≡ false → Between p k strict low (low + (high - low) / 2)
+      lower-half g =
+          let m = ltb-false (low + (high - low) / 2) (lastPlace (passes strict (key k)) (elements p)) (sym middle ∙ g) in
+          record { within = omega (arith, w .within); from = w .from; upTo = m }
 
-    pub scan-end : WFPivots (elements p) ≡ true → length p / 66 ≤ i → i ≡ lastPlace (passes strict (key k)) (elements p)
-    scan-end wf h =
-        let n : i ≡ length (elements p) = omega (arith, length-elements p, w .within) in
-        let two = wf-count (elements p) wf in
-        n ∙ sym (place-all strict (key k) (elements p) (omega arith) (rw n at (w .before (omega arith))))
+    -- where the two meet they are the place
+    pub between-end : high ≤ low → low ≡ lastPlace (passes strict (key k)) (elements p)
+    between-end h = omega (arith, w .from, w .upTo)
 
   -- ---- the slot by the place
 

@@ -18,20 +18,22 @@ ghost use Rattle.model.specs.cuts.Sides.{inside, cutoff};
 ghost use Rattle.model.specs.calls.TableCalls.{edgeSlotCauses};
 ghost use Rattle.model.specs.calls.InsertionCalls.{insertedPivots, tooManyPivots, newPivotCauses};
 
-// How many pivots are not above the key or, where strict, below it: they stand first.
+// How many pivots are not above the key or, where strict, below it. They stand first, so the place is found by halving.
 fn place(pivots: &[u8], k: &[u8], strict: bool) -> usize
     requires { ⌜ WFPivots (elements (now pivots)) ≡ true ⌝ }
     ensures { λ r. ⌜ r ≡ lastPlace (passes strict (key (now (k .entry)))) (elements (now (pivots .entry))) ⌝ }
 {
-    let count = pivots.len() / RECORD_SIZE;
-    let mut i = 0;
-    while i < count {
-        if !keys::passes(records::record_at(pivots, i), k, strict) {
-            return i;
+    let mut low = 0;
+    let mut high = pivots.len() / RECORD_SIZE;
+    while low < high {
+        let middle = low + (high - low) / 2;
+        if keys::passes(records::record_at(pivots, middle), k, strict) {
+            low = middle + 1;
+        } else {
+            high = middle;
         }
-        i += 1;
     }
-    i
+    low
 }
 
 // The slot that ends the pivots which pass, where there is one.

@@ -1,8 +1,7 @@
 -- Bytes that make equal words are equal, and those of a zero word are zero.
 use mathlib.Core.Path.{_≡_, refl, sym, _∙_}
-use mathlib.Core.Bool.{Bool}
 use mathlib.Core.List.{List, [], _∷_}
-use Prim.Native.Nat.{ℕ, zero, suc, _+_, _*_, _-_, _≤_}
+use Prim.Native.Nat.{ℕ, zero, suc, _+_, _*_, _-_, _≤_, _<_}
 use native.Mathlib.Omega.{arith}
 use mir.Syntax.{w8}
 use mir.Val.{Fits}
@@ -10,13 +9,17 @@ use borrow.Author.Tests.{eq-eqb}
 use lib.ListN.{length, drop, getD, length-drop}
 use lib.Seq.{drop-drop, getD-drop}
 use Rattle.model.specs.keys.Key.{Bytes, commonRun}
-use Rattle.model.specs.records.Record.{allZero}
 use Rattle.model.proofs.keys.Key.{bytes-of, bytes-drop}
 use Rattle.scan.specs.Word.{wordOf}
 
+-- the first byte of some, or 0 of none
+pub head-byte : (l : List ℕ) → Bytes l → getD l 0 0 < 256
+head-byte [] p = omega arith
+head-byte (x ∷ l) p = p .0
+
 -- ---- lists whose first n bytes make one word
 
-common-words : (n : ℕ) (a b : List ℕ) → n ≤ length a → n ≤ length b → Bytes a → Bytes b → wordOf n a ≡ wordOf n b
+pub common-words : (n : ℕ) (a b : List ℕ) → n ≤ length a → n ≤ length b → Bytes a → Bytes b → wordOf n a ≡ wordOf n b
     → n + length (commonRun (drop n a) (drop n b)) ≡ length (commonRun a b)
 unfolding wordOf commonRun
 common-words zero a b h k p q e = omega arith
@@ -29,14 +32,6 @@ common-words (suc n) (x ∷ a) (y ∷ b) h k p q e =
     let t = common-words n a b (omega arith) (omega arith) (p .1) (q .1) (omega arith) in
     rw (eq-eqb x y s) (omega (arith, t))
 
-zero-word : (n : ℕ) (a : List ℕ) → n ≤ length a → wordOf n a ≡ 0 → allZero (drop n a) ≡ allZero a
-unfolding wordOf allZero
-zero-word zero a h e = refl
-zero-word (suc n) [] h e = refl
-zero-word (suc n) (x ∷ a) h e =
-    let s : x ≡ 0 = omega arith in
-    rw (eq-eqb x 0 s) (zero-word n a (omega arith) (omega arith))
-
 -- ---- in the course of a scan, by words of m bytes
 
 pub word-agrees : (m : ℕ) (a b : List ℕ) (i n x y : ℕ) → x ≡ wordOf m (drop i a) → y ≡ wordOf m (drop i b) → x ≡ y → m ≤ n - i
@@ -47,21 +42,16 @@ word-agrees m a b i n x y u v e l p q s t =
     (bytes-drop i a (bytes-of a s)) (bytes-drop i b (bytes-of b t)) (sym u ∙ e ∙ v) in
     omega (arith, rw (drop-drop, drop-drop) at w)
 
-pub word-zero : (m : ℕ) (a : List ℕ) (i x : ℕ) → x ≡ wordOf m (drop i a) → x ≡ 0 → m ≤ length a - i → allZero (drop (i + m) a) ≡ allZero (drop i a)
-word-zero m a i x u e l =
-    let w = zero-word m (drop i a) (omega (arith, length-drop i a)) (sym u ∙ e) in
-    rw drop-drop at w
-
 -- ---- the word of four and of eight bytes
 
 -- one byte and the word of those after it
-word-step : (n : ℕ) (s : List ℕ) (i j : ℕ) → j ≡ i + 1 → wordOf (suc n) (drop i s) ≡ getD s i 0 + 256 * wordOf n (drop j s)
+pub word-step : (n : ℕ) (s : List ℕ) (i j : ℕ) → j ≡ i + 1 → wordOf (suc n) (drop i s) ≡ getD s i 0 + 256 * wordOf n (drop j s)
 unfolding wordOf
 word-step n s i j e =
     let z : i + 0 ≡ i = omega arith in
     rw (getD-drop, z, drop-drop, e)
 
-word-none : (l : List ℕ) → wordOf 0 l ≡ 0
+pub word-none : (l : List ℕ) → wordOf 0 l ≡ 0
 unfolding wordOf
 word-none l = refl
 
@@ -74,17 +64,12 @@ half-is s i =
     let e = word-none (drop (i + 4) s) in
     omega arith
 
-pub word-is : (s : List ℕ) (i : ℕ) → wordOf 8 (drop i s)
-    ≡ getD s i 0 + getD s (i + 1) 0 * 256 + getD s (i + 2) 0 * 65536 + getD s (i + 3) 0 * 16777216
-    + getD s (i + 4) 0 * 4294967296 + getD s (i + 5) 0 * 1099511627776 + getD s (i + 6) 0 * 281474976710656 + getD s (i + 7) 0 * 72057594037927936
-word-is s i =
+-- eight bytes are two halves
+pub word-is : (s : List ℕ) (i x y : ℕ) → x ≡ wordOf 4 (drop i s) → y ≡ wordOf 4 (drop (i + 4) s) → x + y * 4294967296 ≡ wordOf 8 (drop i s)
+word-is s i x y u v =
     let a = word-step 7 s i (i + 1) refl in
     let b = word-step 6 s (i + 1) (i + 2) (omega arith) in
     let c = word-step 5 s (i + 2) (i + 3) (omega arith) in
     let d = word-step 4 s (i + 3) (i + 4) (omega arith) in
-    let e = word-step 3 s (i + 4) (i + 5) (omega arith) in
-    let f = word-step 2 s (i + 5) (i + 6) (omega arith) in
-    let g = word-step 1 s (i + 6) (i + 7) (omega arith) in
-    let h = word-step 0 s (i + 7) (i + 8) (omega arith) in
-    let k = word-none (drop (i + 8) s) in
+    let e = half-is s i in
     omega arith

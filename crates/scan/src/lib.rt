@@ -2,16 +2,20 @@
 mod words;
 
 use words::begins_by_words;
+use words::big_at;
 use words::equal_half;
 use words::equal_words;
-use words::zero_half;
+use words::zero_bytes;
+use words::zero_end;
 use words::zero_words;
 ghost use mathlib.Core.Path.{_≡_};
 ghost use Prim.Native.Nat.{_≤_, min};
-ghost use lib.ListN.{length, drop, getD};
+ghost use lib.ListN.{length, take, drop, getD};
 ghost use Rattle.model.specs.keys.Key.{IsPrefix, commonRun};
+ghost use Rattle.model.specs.keys.Order.{key, cmp};
 ghost use Rattle.model.specs.records.Record.{allZero};
 ghost use Rattle.model.specs.ranges.RangePrefix.{lcpright};
+ghost use Rattle.scan.specs.Word.{whole};
 
 // The byte at a place, or 0 past the end.
 pub fn byte_at(s: &[u8], i: usize) -> u8
@@ -46,6 +50,21 @@ pub fn common_run(a: &[u8], b: &[u8]) -> usize
     i
 }
 
+// The same by single bytes, for a few of them.
+pub fn count_bytes(a: &[u8], b: &[u8]) -> usize
+    ensures { λ r. ⌜ r ≡ length (commonRun (now (a .entry)) (now (b .entry))) ⌝ }
+{
+    let n = least(a.len(), b.len());
+    let mut i = 0;
+    while i < n {
+        if a[i] != b[i] {
+            return i;
+        }
+        i += 1;
+    }
+    i
+}
+
 // The length of the leading run of FF.
 pub fn ff_run(a: &[u8]) -> usize
     ensures { λ r. ⌜ r ≡ length (lcpright (now (a .entry))) ⌝ }
@@ -65,17 +84,36 @@ pub fn ff_run(a: &[u8]) -> usize
 pub fn zero_from(a: &[u8], from: usize) -> bool
     ensures { λ r. ⌜ r ≡ allZero (drop from (now (a .entry))) ⌝ }
 {
+    if a.len() < 8 {
+        return zero_bytes(a, from);
+    }
+    if from <= a.len() - 8 {
+        return zero_words(a, from);
+    }
     if a.len() <= from {
         return true;
     }
-    let mut i = zero_half(a, zero_words(a, from));
-    while i < a.len() {
-        if a[i] != 0 {
-            return false;
+    zero_end(a, from)
+}
+
+// The order of two slices by whole words, up to the last few bytes of the shorter: -1, 0 or 1.
+pub fn order_words(a: &[u8], b: &[u8]) -> i64
+    ensures { λ r. ⌜ r ≡ cmp (key (take (whole (now (a .entry)) (now (b .entry))) (now (a .entry)))) (key (take (whole (now (a .entry)) (now (b .entry))) (now (b .entry)))) ⌝ }
+{
+    let n = least(a.len(), b.len());
+    let mut i = 0;
+    while 8 <= n - i {
+        let x = big_at(a, i);
+        let y = big_at(b, i);
+        if x != y {
+            if x < y {
+                return -1;
+            }
+            return 1;
         }
-        i += 1;
+        i += 8;
     }
-    true
+    0
 }
 
 // Whether k begins with p.

@@ -45,14 +45,9 @@ module _ (a b e : List ℕ) (t : Bool) (m : t ≡ eqb (lengthField e) noEdgeMark
   unfolding edgeOf
   none-fits h = rw (← m, h)
 
-  pub prefix-fits : (n : ℕ) → t ≡ false → n ≡ length (PivotLcp (element a) (element b))
-      → not (eqb n 0) ≡ edgeFits (PivotLcp (element a) (element b)) (edgeOf e)
+  pub prefix-fits : (u : Bool) → t ≡ false → u ≡ not (isNil (PivotLcp (element a) (element b))) → u ≡ edgeFits (PivotLcp (element a) (element b)) (edgeOf e)
   unfolding edgeOf
-  prefix-fits n h g = rw (← m, h, g) (go (PivotLcp (element a) (element b)))
-    where
-      go : (p : Key) → not (eqb (length p) 0) ≡ not (isNil p)
-      go [] = refl
-      go (x ∷ p) = rw (ne-eqb (length (x ∷ p)) 0 (λ q. omega arith))
+  prefix-fits u h g = rw (← m, h) g
 
 -- the slot's records are those at its place
 pub slot-told : (p e a b c : List ℕ) (i : ℕ) (t : Bool) → a ≡ recordAt p i → b ≡ recordAt p (i + 1) → c ≡ recordAt e i

@@ -55,7 +55,7 @@ fn edge_fits(left: &[u8], right: &[u8], edge: &[u8]) -> bool
     if records::is_no_edge(edge) {
         return true;
     }
-    range_prefix::element_range_prefix(left, right) != 0
+    range_prefix::has_range_prefix(left, right)
 }
 
 // Whether the edge of slot i may stand there.

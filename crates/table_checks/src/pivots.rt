@@ -5,11 +5,11 @@ use model::MIN_PIVOTS;
 use model::RECORD_SIZE;
 use model::Refusal;
 ghost use mathlib.Core.Path.{_≡_};
-ghost use mathlib.Core.Bool.{false, _&&_};
+ghost use mathlib.Core.Bool.{true, false, _&&_};
 ghost use Prim.Native.Nat.{_+_, _/_, _<_};
 ghost use lib.ListN.{length};
 ghost use Rattle.model.specs.keys.Order.{lt};
-ghost use Rattle.model.specs.records.Record.{recordSize, element};
+ghost use Rattle.model.specs.records.Record.{recordSize, reading, elementReading, element};
 ghost use Rattle.model.specs.inner.Places.{recordAt};
 ghost use Rattle.model.specs.calls.Refusals.{answer};
 ghost use Rattle.model.specs.calls.TableCalls.{notPivotCount, pivotCauses};
@@ -28,36 +28,37 @@ fn not_pivot_count(pivots: &[u8]) -> bool
     MAX_PIVOTS < count
 }
 
-// Whether pivots that rise up to the place i also rise from there to the next.
+// Whether pivots that rise up to the place i also rise from there to the next, where both are read.
 fn rises_on(pivots: &[u8], i: usize, rises: bool) -> bool
-    requires { ⌜ i < length (now pivots) / recordSize ⌝ }
+    requires { ⌜ (i + 1 < length (now pivots) / recordSize) × (elementReading (reading (recordAt (now pivots) i)) ≡ true) × (elementReading (reading (recordAt (now pivots) (i + 1))) ≡ true) ⌝ }
     ensures { λ r. ⌜ r ≡ (rises && lt (element (recordAt (now (pivots .entry)) i)) (element (recordAt (now (pivots .entry)) (i + 1)))) ⌝ }
 {
     let here = records::record_at(pivots, i);
     let next = records::record_at(pivots, i + 1);
     if rises {
-        return keys::is_below(here, next);
+        return keys::compare_padded(here, next) < 0;
     }
     false
 }
 
-// Causes 2 and 3, in one pass: each record is read, and compared with the next one.
+// Causes 2 and 3, in one pass: each record is read, and compared with the one before it.
 fn read_pivots(pivots: &[u8]) -> Answer
     requires { ⌜ notPivotCount (now pivots) ≡ false ⌝ }
     ensures { λ r. ⌜ r ≡ answer (pivotCauses false false (now (pivots .entry))) (length (now (pivots .entry)) / recordSize) ⌝ }
 {
     let count = pivots.len() / RECORD_SIZE;
+    if !records::holds(records::record_at(pivots, 0), false, false) {
+        return Answer::Refused(Refusal::Malformed);
+    }
     let mut rises = true;
     let mut i = 0;
     while i + 1 < count {
-        if !records::holds(records::record_at(pivots, i), false, false) {
+        let last = i + 2 == count;
+        if !records::holds(records::record_at(pivots, i + 1), false, last) {
             return Answer::Refused(Refusal::Malformed);
         }
         rises = rises_on(pivots, i, rises);
         i += 1;
-    }
-    if !records::holds(records::record_at(pivots, i), false, true) {
-        return Answer::Refused(Refusal::Malformed);
     }
     if !rises {
         return Answer::Refused(Refusal::Unsorted);

@@ -9,29 +9,18 @@ mod lent;
 mod pair_calls;
 mod placement;
 mod report;
+mod rounds;
 mod sides;
 mod table_calls;
 mod timing;
 
 use inputs::Xorshift;
-use std::env;
 use std::process::ExitCode;
 
 const SEED: u64 = 20_260_701;
-const ROUNDS: usize = 201;
-
-/// The number of rounds, where the arguments are good.
-fn rounds() -> Option<usize> {
-    let mut words = env::args().skip(1);
-    match (words.next(), words.next()) {
-        (None, _) => Some(ROUNDS),
-        (Some(word), None) => word.parse().ok().filter(|&rounds| rounds > 0),
-        _ => None,
-    }
-}
 
 fn main() -> ExitCode {
-    let Some(rounds) = rounds() else {
+    let Some(rounds) = rounds::rounds() else {
         eprintln!("usage: bench [ROUNDS]");
         return ExitCode::from(2);
     };

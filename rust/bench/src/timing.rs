@@ -42,6 +42,14 @@ impl Timed {
         let nanos = self.pass_nanos(self.passes);
         self.samples.push(nanos);
     }
+
+    /// The median of the rounds' samples.
+    #[allow(dead_code)] // `bench` prints no times.
+    pub fn median(&self) -> f64 {
+        let mut samples = self.samples.clone();
+        samples.sort_by(f64::total_cmp);
+        samples[samples.len() / 2]
+    }
 }
 
 /// The ratios of two sides, one for each round: what slows a whole round is in both.

@@ -7,7 +7,8 @@ use Prim.Native.Nat.{ℕ, zero, suc, _+_, _*_, _/_, _%_, _≤_, _<_}
 use native.Mathlib.Omega.{arith}
 use borrow.Author.Tests.{eqb-true, le-ltb, ltb-false, leb-true, not-false}
 use lib.Dec.{eqb, leb}
-use lib.ListN.{length, take, drop, length-map}
+use lib.ListN.{length, take, drop, length-map, length-drop}
+use lib.Seq.{length-take-le}
 use Rattle.model.specs.declared.Reading.{Reading}
 use Rattle.model.specs.declared.Reading.the-variants as reads
 use Rattle.model.specs.declared.Answer.{Answer}
@@ -25,7 +26,7 @@ use Rattle.model.proofs.calls.Refusals.{none-here, none-later, none-bef
 use Rattle.model.proofs.Lists.{getD-map, all-map}
 use Rattle.model.proofs.keys.Key.{both, bytes-take, bytes-drop}
 use Rattle.model.proofs.records.Record.{short-element, short-edge}
-use Rattle.model.proofs.records.Records.{length-pieces, encodeAll-elements, encodeEdges-edges}
+use Rattle.model.proofs.records.Records.{length-pieces, piece-at, encodeAll-elements, encodeEdges-edges}
 use Rattle.model.proofs.tables.Routing.{wf-of}
 
 module _ (p : List ℕ) where
@@ -45,6 +46,13 @@ module _ (p : List ℕ) where
   module _ (i : ℕ) (h : i < length p / recordSize) where
     inside : i < length (records p)
     inside = rw length-records h
+
+    -- the record at a place has 66 bytes
+    pub record-length : length (recordAt p i) ≡ recordSize
+    unfolding records
+    record-length =
+        rw (piece-at recordSize (length p / recordSize) i p h)
+        (length-take-le recordSize (drop (i * recordSize) p) (omega (arith, length-drop (i * recordSize) p)))
 
     -- a pivot is what the record at its place stands for
     pub element-at : pivotAt (elements p) i ≡ element (recordAt p i)

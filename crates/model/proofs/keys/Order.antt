@@ -153,14 +153,15 @@ prefix-first k b m = ap not (from-Lt (go k))
     go [] = start<
     go (x ∷ k) = next< (go k)
 
+-- what is below is so after the same bytes
+pub Lt-after : (p : Key) {a b : Key} → Lt a b → Lt (p ++ a) (p ++ b)
+Lt-after [] h = h
+Lt-after (x ∷ p) h = next< (Lt-after p h)
+
 -- the first differing byte decides
 pub first-difference : (p a b : Key) (x y : ℕ) → x < y → lt (key (p ++ x ∷ a)) (key (p ++ y ∷ b)) ≡ true
 unfolding lte
-first-difference p a b x y h = ap not (from-Lt (go p))
-  where
-    go : (p : Key) → Lt (p ++ x ∷ a) (p ++ y ∷ b)
-    go [] = less< h
-    go (z ∷ p) = next< (go p)
+first-difference p a b x y h = ap not (from-Lt (Lt-after p (less< h)))
 
 -- below says that the other way round is false
 pub lt-false : (a b : Element) → lt a b ≡ true → lte b a ≡ false
@@ -216,3 +217,12 @@ cmp-zero a b h = go (lte b a) (lte a b) refl refl
     go true true e f = lte-antisym a b f e
     go true false e f = cc (cmp-more a b (false-lt b a f))
     go false q e f = cc (cmp-less a b (false-lt a b e))
+
+-- compare of keys, by where they part
+pub below : {a b : Key} → Lt a b → cmp (key a) (key b) ≡ negsuc 0
+unfolding lte
+below {a = a} {b = b} h = cmp-less (key a) (key b) (ap not (from-Lt h))
+
+pub above : {a b : Key} → Lt b a → cmp (key a) (key b) ≡ pos 1
+unfolding lte
+above {a = a} {b = b} h = cmp-more (key a) (key b) (ap not (from-Lt h))

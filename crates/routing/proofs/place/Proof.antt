@@ -1,20 +1,27 @@
 -- `routing::place` meets its contract.
 use Prim.Native.Nat.{_-_}
+use native.Mathlib.Omega.{arith}
+use Rattle.routing.proofs.Placing.{Between, between-start, upper-half, lower-half, between-end}
 use borrow.Author.Needs.{needs}
-use Rattle.routing.proofs.Placing.{Scan, scan-start, scan-turn, scan-stop, scan-end}
 use Rattle.routing.proofs.place.Statement.{statement}
 use Rattle.routing.proofs.place.Tie as tie
 
-ruleset rules = (needs, scan-start, scan-turn, scan-stop, scan-end)
+ruleset rules = (needs, between-start, between-end)
 
 abbrev Inv-loop : tie.InvT-loop
-Inv-loop pivots k strict count i₀ i = Scan pivots k strict i
+Inv-loop pivots k strict low₀ high₀ low high = Between pivots k strict low high
 
 abbrev μ-loop : tie.MeasureT-loop
-μ-loop pivots k strict count i₀ i = count - i
+μ-loop pivots k strict low₀ high₀ low high = high - low
 
 loop-holds : tie.Need-loop-holds Inv-loop μ-loop
 loop-holds c = search rules
+
+sub-middle : tie.Need-sub-middle Inv-loop μ-loop
+sub-middle c = search rules
+
+add-middle : tie.Need-add-middle Inv-loop μ-loop
+add-middle c = search rules
 
 record-at-requires : tie.Need-record-at-requires Inv-loop μ-loop
 record-at-requires c κs = search rules
@@ -22,20 +29,29 @@ record-at-requires c κs = search rules
 passes-requires : tie.Need-passes-requires Inv-loop μ-loop
 passes-requires c κs = search rules
 
-returns : tie.Need-returns Inv-loop μ-loop
-returns c = search rules
-
-add-i : tie.Need-add-i Inv-loop μ-loop
-add-i c = search rules
+add-low : tie.Need-add-low Inv-loop μ-loop
+add-low c = search rules
 
 loop-less : tie.Need-loop-less Inv-loop μ-loop
 loop-less c = search rules
 
 loop-again : tie.Need-loop-again Inv-loop μ-loop
-loop-again c = search rules
+loop-again c =
+    let between = c .before .before .before .before .loop in
+    let go = upper-half _ _ _ (between .low) (between .high) (between .inv) (search needs) (omega (arith, c .before .before .before .loop-test .taken)) in
+    go _ _ (c .before .before .record-at .ensures) (c .before .passes .ensures) (c .if1 .taken)
 
-returns-2 : tie.Need-returns-2 Inv-loop μ-loop
-returns-2 c = search rules
+loop-less-2 : tie.Need-loop-less-2 Inv-loop μ-loop
+loop-less-2 c = search rules
+
+loop-again-2 : tie.Need-loop-again-2 Inv-loop μ-loop
+loop-again-2 c =
+    let between = c .before .before .before .before .loop in
+    let go = lower-half _ _ _ (between .low) (between .high) (between .inv) (search needs) (omega (arith, c .before .before .before .loop-test .taken)) in
+    go _ _ (c .before .before .record-at .ensures) (c .before .passes .ensures) (c .if1 .left)
+
+returns : tie.Need-returns Inv-loop μ-loop
+returns c = search rules
 
 pub place-spec : {M : Type 1} → statement M
 place-spec =
@@ -44,10 +60,13 @@ place-spec =
     Inv-loop
     μ-loop
     loop-holds
+    sub-middle
+    add-middle
     record-at-requires
     passes-requires
-    returns
-    add-i
+    add-low
     loop-less
     loop-again
-    returns-2)
+    loop-less-2
+    loop-again-2
+    returns)

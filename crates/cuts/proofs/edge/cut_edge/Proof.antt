@@ -25,11 +25,11 @@ returns c = (search rules, search rules)
 key-bytes-requires : tie.Need-key-bytes-requires
 key-bytes-requires c κs = search rules
 
-slice-aggregate-change-prefix : tie.Need-slice-aggregate-change-prefix
-slice-aggregate-change-prefix c = search rules
+slice-aggregate-change-prefix-small : tie.Need-slice-aggregate-change-prefix-small
+slice-aggregate-change-prefix-small c = search rules
 
-change-prefix-requires : tie.Need-change-prefix-requires
-change-prefix-requires c κs = search rules
+change-prefix-small-requires : tie.Need-change-prefix-small-requires
+change-prefix-small-requires c κs = search rules
 
 enum-known-changed : tie.Need-enum-known-changed
 enum-known-changed c = search rules
@@ -68,8 +68,8 @@ cut-edge-spec =
     same-length
     returns
     key-bytes-requires
-    slice-aggregate-change-prefix
-    change-prefix-requires
+    slice-aggregate-change-prefix-small
+    change-prefix-small-requires
     enum-known-changed
     enum-told
     returns-2

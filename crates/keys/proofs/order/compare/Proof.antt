@@ -1,6 +1,7 @@
 -- `keys::compare` meets its contract.
 use Rattle.model.proofs.calls.Refusals.{answering}
 use Rattle.keys.proofs.Elements.{passed-on}
+use Rattle.keys.proofs.Padded.{held}
 use borrow.Author.Needs.{needs}
 use Rattle.keys.proofs.order.compare.Statement.{statement}
 use Rattle.keys.proofs.order.compare.Tie as tie
@@ -25,8 +26,11 @@ holds-element-requires-2 c κs = search rules
 returns-4 : tie.Need-returns-4
 returns-4 c = search rules
 
-compare-elements-requires : tie.Need-compare-elements-requires
-compare-elements-requires c κs = search rules
+compare-padded-requires : tie.Need-compare-padded-requires
+compare-padded-requires c κs =
+    let first = held _ _ (c .before .before .before .holds-element .ensures) (c .before .before .if3 .left) in
+    let second = held _ _ (c .before .holds-element2 .ensures) (c .if4 .left) in
+    ((search needs, first), (search needs, second))
 
 returns-5 : tie.Need-returns-5
 returns-5 c = search rules
@@ -41,5 +45,5 @@ compare-spec =
     returns-3
     holds-element-requires-2
     returns-4
-    compare-elements-requires
+    compare-padded-requires
     returns-5)

@@ -1,42 +1,60 @@
 -- `keys::compare_keys` meets its contract.
-use Rattle.model.proofs.keys.CommonRun.{cmp-equal, cmp-shorter, cmp-longer, cmp-below, cmp-above}
+use Rattle.keys.proofs.Padded.{words-decide, rest-decides-words}
 use borrow.Author.Needs.{needs}
 use Rattle.keys.proofs.order.compare_keys.Statement.{statement}
 use Rattle.keys.proofs.order.compare_keys.Tie as tie
 
-common-run-requires : tie.Need-common-run-requires
-common-run-requires c κs = search needs
+ruleset rules = (needs, words-decide, rest-decides-words)
+
+order-words-requires : tie.Need-order-words-requires
+order-words-requires c κs = search rules
 
 returns : tie.Need-returns
-returns c = search cmp-equal
+returns c = search rules
+
+least-requires : tie.Need-least-requires
+least-requires c κs = search rules
+
+mul-n : tie.Need-mul-n
+mul-n c = search rules
+
+sub-compare-bytes : tie.Need-sub-compare-bytes
+sub-compare-bytes c = search rules
+
+part-compare-bytes-start : tie.Need-part-compare-bytes-start
+part-compare-bytes-start c = search rules
+
+part-compare-bytes-end : tie.Need-part-compare-bytes-end
+part-compare-bytes-end c = search rules
+
+sub-compare-bytes-2 : tie.Need-sub-compare-bytes-2
+sub-compare-bytes-2 c = search rules
+
+part-compare-bytes-start-2 : tie.Need-part-compare-bytes-start-2
+part-compare-bytes-start-2 c = search rules
+
+part-compare-bytes-end-2 : tie.Need-part-compare-bytes-end-2
+part-compare-bytes-end-2 c = search rules
+
+compare-bytes-requires : tie.Need-compare-bytes-requires
+compare-bytes-requires c κs = search rules
 
 returns-2 : tie.Need-returns-2
-returns-2 c = search cmp-shorter
-
-returns-3 : tie.Need-returns-3
-returns-3 c = search cmp-longer
-
-shared-slice-read-if4 : tie.Need-shared-slice-read-if4
-shared-slice-read-if4 c = search needs
-
-shared-slice-read-if4-2 : tie.Need-shared-slice-read-if4-2
-shared-slice-read-if4-2 c = search needs
-
-returns-4 : tie.Need-returns-4
-returns-4 c = search cmp-below
-
-returns-5 : tie.Need-returns-5
-returns-5 c = search cmp-above
+returns-2 c = search rules
 
 pub compare-keys-spec : {M : Type 1} → statement M
 compare-keys-spec =
     tie.close
     (tie.spec
-    common-run-requires
+    order-words-requires
     returns
-    returns-2
-    returns-3
-    shared-slice-read-if4
-    shared-slice-read-if4-2
-    returns-4
-    returns-5)
+    least-requires
+    mul-n
+    sub-compare-bytes
+    part-compare-bytes-start
+    part-compare-bytes-end
+    sub-compare-bytes-2
+    part-compare-bytes-start-2
+    part-compare-bytes-end-2
+    compare-bytes-requires
+    returns-2)

@@ -1,66 +1,40 @@
 -- `listing::fields::hex_text` meets its contract.
-use mathlib.Core.Path.{_≡_, refl}
-use mathlib.Core.List.{_++_}
-use Prim.Native.Nat.{_-_, _≤_}
-use lib.ListN.{length, take, drop}
-use Rattle.model.specs.list.ShelfList.{hex}
-use Rattle.records.proofs.Writing.{set-kept}
 use borrow.Author.Needs.{needs}
-use Rattle.listing.proofs.Digits.{hex-length, hex-room, hex-turn, hex-end}
+use Rattle.listing.proofs.Digits.{hex-length}
 use Rattle.listing.proofs.fields.hex_text.Statement.{statement}
 use Rattle.listing.proofs.fields.hex_text.Tie as tie
 
-ruleset rules = (needs, set-kept, hex-length, hex-room, hex-turn, hex-end)
+ruleset rules = (needs, hex-length)
 
-abbrev Inv-loop : tie.InvT-loop
-Inv-loop k dest₀ len n i₀ dest i = (i ≤ n) × (n ≤ length (hex k)) × (length dest ≡ length dest₀) × (dest ≡ take i (hex k) ++ drop i dest₀)
-
-abbrev μ-loop : tie.MeasureT-loop
-μ-loop k dest₀ len n i₀ dest i = n - i
-
-mul-len : tie.Need-mul-len Inv-loop μ-loop
+mul-len : tie.Need-mul-len
 mul-len c = search rules
 
-least-requires : tie.Need-least-requires Inv-loop μ-loop
-least-requires c κs = search rules
+hex-clipped-requires : tie.Need-hex-clipped-requires
+hex-clipped-requires c κs = search rules
 
-loop-holds : tie.Need-loop-holds Inv-loop μ-loop
-loop-holds c = (search rules, search rules, refl, refl)
-
-hex-digit-requires : tie.Need-hex-digit-requires Inv-loop μ-loop
-hex-digit-requires c κs = search rules
-
-slice-write-dest : tie.Need-slice-write-dest Inv-loop μ-loop
-slice-write-dest c = search rules
-
-add-i : tie.Need-add-i Inv-loop μ-loop
-add-i c = search rules
-
-loop-less : tie.Need-loop-less Inv-loop μ-loop
-loop-less c = search rules
-
-loop-again : tie.Need-loop-again Inv-loop μ-loop
-loop-again c = (search rules, search rules, search rules, search rules)
-
-same-length : tie.Need-same-length Inv-loop μ-loop
+same-length : tie.Need-same-length
 same-length c = search rules
 
-returns : tie.Need-returns Inv-loop μ-loop
-returns c = ((search rules, search rules), search rules)
+returns : tie.Need-returns
+returns c = search rules
+
+hex-pairs-requires : tie.Need-hex-pairs-requires
+hex-pairs-requires c κs = search rules
+
+same-length-2 : tie.Need-same-length-2
+same-length-2 c = search rules
+
+returns-2 : tie.Need-returns-2
+returns-2 c = search rules
 
 pub hex-text-spec : {M : Type 1} → statement M
 hex-text-spec =
     tie.close
     (tie.spec
-    Inv-loop
-    μ-loop
     mul-len
-    least-requires
-    loop-holds
-    hex-digit-requires
-    slice-write-dest
-    add-i
-    loop-less
-    loop-again
+    hex-clipped-requires
     same-length
-    returns)
+    returns
+    hex-pairs-requires
+    same-length-2
+    returns-2)

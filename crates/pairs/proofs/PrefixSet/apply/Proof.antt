@@ -15,14 +15,14 @@ malformed-requires c κs = search rules
 returns : tie.Need-returns
 returns c = (search rules, search rules)
 
-slice-aggregate-change-prefix : tie.Need-slice-aggregate-change-prefix
-slice-aggregate-change-prefix c = search rules
+slice-aggregate-change-prefix-small : tie.Need-slice-aggregate-change-prefix-small
+slice-aggregate-change-prefix-small c = search rules
 
-slice-aggregate-change-prefix-2 : tie.Need-slice-aggregate-change-prefix-2
-slice-aggregate-change-prefix-2 c = search rules
+slice-aggregate-change-prefix-small-2 : tie.Need-slice-aggregate-change-prefix-small-2
+slice-aggregate-change-prefix-small-2 c = search rules
 
-change-prefix-requires : tie.Need-change-prefix-requires
-change-prefix-requires c κs = search rules
+change-prefix-small-requires : tie.Need-change-prefix-small-requires
+change-prefix-small-requires c κs = search rules
 
 same-length : tie.Need-same-length
 same-length c = search rules
@@ -33,17 +33,17 @@ returns-2 c = (search rules, search rules)
 array-share-prefix-old : tie.Need-array-share-prefix-old
 array-share-prefix-old c = search rules
 
-slice-aggregate-change-prefix-3 : tie.Need-slice-aggregate-change-prefix-3
-slice-aggregate-change-prefix-3 c = search rules
+slice-aggregate-change-prefix-small-3 : tie.Need-slice-aggregate-change-prefix-small-3
+slice-aggregate-change-prefix-small-3 c = search rules
 
 array-share-prefix-new : tie.Need-array-share-prefix-new
 array-share-prefix-new c = search rules
 
-slice-aggregate-change-prefix-4 : tie.Need-slice-aggregate-change-prefix-4
-slice-aggregate-change-prefix-4 c = search rules
+slice-aggregate-change-prefix-small-4 : tie.Need-slice-aggregate-change-prefix-small-4
+slice-aggregate-change-prefix-small-4 c = search rules
 
-change-prefix-requires-2 : tie.Need-change-prefix-requires-2
-change-prefix-requires-2 c κs = search rules
+change-prefix-small-requires-2 : tie.Need-change-prefix-small-requires-2
+change-prefix-small-requires-2 c κs = search rules
 
 same-length-2 : tie.Need-same-length-2
 same-length-2 c = search rules
@@ -57,15 +57,15 @@ apply-spec =
     (tie.spec
     malformed-requires
     returns
-    slice-aggregate-change-prefix
-    slice-aggregate-change-prefix-2
-    change-prefix-requires
+    slice-aggregate-change-prefix-small
+    slice-aggregate-change-prefix-small-2
+    change-prefix-small-requires
     same-length
     returns-2
     array-share-prefix-old
-    slice-aggregate-change-prefix-3
+    slice-aggregate-change-prefix-small-3
     array-share-prefix-new
-    slice-aggregate-change-prefix-4
-    change-prefix-requires-2
+    slice-aggregate-change-prefix-small-4
+    change-prefix-small-requires-2
     same-length-2
     returns-3)

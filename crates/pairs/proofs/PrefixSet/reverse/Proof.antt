@@ -1,13 +1,12 @@
 -- `pairs::PrefixSet::reverse` meets its contract.
 use Rattle.model.proofs.calls.Refusals.{answering}
-use Rattle.model.proofs.Lists.{part-counts}
-use Rattle.pairs.proofs.States.{told-true, old-inside, new-inside}
+use Rattle.pairs.proofs.States.{told-true}
 use Rattle.pairs.proofs.Results.{reverse-absent, reverse-none, reverse-there, reverse-pair}
 use borrow.Author.Needs.{needs}
 use Rattle.pairs.proofs.PrefixSet.reverse.Statement.{statement}
 use Rattle.pairs.proofs.PrefixSet.reverse.Tie as tie
 
-ruleset rules = (needs, part-counts, old-inside, new-inside, told-true, reverse-absent, reverse-none, reverse-there, reverse-pair, answering)
+ruleset rules = (needs, told-true, reverse-absent, reverse-none, reverse-there, reverse-pair, answering)
 
 malformed-requires : tie.Need-malformed-requires
 malformed-requires c κs = search rules
@@ -24,20 +23,20 @@ beside-requires-2 c κs = search rules
 returns-2 : tie.Need-returns-2
 returns-2 c = (search rules, search rules)
 
-array-share-prefix-new : tie.Need-array-share-prefix-new
-array-share-prefix-new c = search rules
+slice-aggregate-cleared : tie.Need-slice-aggregate-cleared
+slice-aggregate-cleared c = search rules
 
-slice-aggregate-made : tie.Need-slice-aggregate-made
-slice-aggregate-made c = search rules
+cleared-requires : tie.Need-cleared-requires
+cleared-requires c κs = search rules
 
-array-share-prefix-old : tie.Need-array-share-prefix-old
-array-share-prefix-old c = search rules
+slice-aggregate-cleared-2 : tie.Need-slice-aggregate-cleared-2
+slice-aggregate-cleared-2 c = search rules
 
-slice-aggregate-made-2 : tie.Need-slice-aggregate-made-2
-slice-aggregate-made-2 c = search rules
+cleared-requires-2 : tie.Need-cleared-requires-2
+cleared-requires-2 c κs = search rules
 
-made-requires : tie.Need-made-requires
-made-requires c κs = search rules
+there-requires : tie.Need-there-requires
+there-requires c κs = search rules
 
 returns-3 : tie.Need-returns-3
 returns-3 c = (search rules, search rules)
@@ -51,9 +50,9 @@ reverse-spec =
     returns
     beside-requires-2
     returns-2
-    array-share-prefix-new
-    slice-aggregate-made
-    array-share-prefix-old
-    slice-aggregate-made-2
-    made-requires
+    slice-aggregate-cleared
+    cleared-requires
+    slice-aggregate-cleared-2
+    cleared-requires-2
+    there-requires
     returns-3)

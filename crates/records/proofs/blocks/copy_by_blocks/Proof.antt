@@ -12,6 +12,9 @@ least-requires c κs = search rules
 copy-requires : tie.Need-copy-requires
 copy-requires c κs = search rules
 
+copy-words-requires : tie.Need-copy-words-requires
+copy-words-requires c κs = search rules
+
 copy-blocks-requires : tie.Need-copy-blocks-requires
 copy-blocks-requires c κs = search rules
 
@@ -27,14 +30,23 @@ same-length-2 c = search rules
 returns-2 : tie.Need-returns-2
 returns-2 c = search rules
 
+same-length-3 : tie.Need-same-length-3
+same-length-3 c = search rules
+
+returns-3 : tie.Need-returns-3
+returns-3 c = search rules
+
 pub copy-by-blocks-spec : {M : Type 1} → statement M
 copy-by-blocks-spec =
     tie.close
     (tie.spec
     least-requires
     copy-requires
+    copy-words-requires
     copy-blocks-requires
     same-length
     returns
     same-length-2
-    returns-2)
+    returns-2
+    same-length-3
+    returns-3)

@@ -1,10 +1,10 @@
 -- `records::is_no_edge` meets its contract.
-use Rattle.records.proofs.Reading.{reading-told, mark-told, past-records, record-part}
+use Rattle.records.proofs.Reading.{mark-told}
 use borrow.Author.Needs.{needs}
 use Rattle.records.proofs.read.is_no_edge.Statement.{statement}
 use Rattle.records.proofs.read.is_no_edge.Tie as tie
 
-ruleset rules = (needs, reading-told, mark-told, past-records, record-part)
+ruleset rules = (needs, mark-told)
 
 length-field-requires : tie.Need-length-field-requires
 length-field-requires c κs = search rules

@@ -1,25 +1,22 @@
 -- `records::read_record` meets its contract.
-use Rattle.records.proofs.Reading.{tail-fits, read-whole, read-spoilt}
+use Rattle.records.proofs.Reading.{read-whole, read-spoilt}
 use borrow.Author.Needs.{needs}
 use Rattle.records.proofs.read.read_record.Statement.{statement}
 use Rattle.records.proofs.read.read_record.Tie as tie
 
-ruleset rules = (needs, tail-fits, read-whole, read-spoilt)
+ruleset rules = (needs, read-whole, read-spoilt)
 
 length-field-requires : tie.Need-length-field-requires
 length-field-requires c κs = search rules
 
-field-reading-requires : tie.Need-field-reading-requires
-field-reading-requires c κs = search rules
-
-key-length-requires : tie.Need-key-length-requires
-key-length-requires c κs = search rules
-
-add-tail : tie.Need-add-tail
-add-tail c = search rules
+tail-of-requires : tie.Need-tail-of-requires
+tail-of-requires c κs = search rules
 
 zero-from-requires : tie.Need-zero-from-requires
 zero-from-requires c κs = search rules
+
+field-reading-requires : tie.Need-field-reading-requires
+field-reading-requires c κs = search rules
 
 returns : tie.Need-returns
 returns c = search rules
@@ -32,9 +29,8 @@ read-record-spec =
     tie.close
     (tie.spec
     length-field-requires
-    field-reading-requires
-    key-length-requires
-    add-tail
+    tail-of-requires
     zero-from-requires
+    field-reading-requires
     returns
     returns-2)

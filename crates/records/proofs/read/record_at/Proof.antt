@@ -1,10 +1,10 @@
 -- `records::record_at` meets its contract.
-use Rattle.records.proofs.Reading.{reading-told, mark-told, past-records, record-part}
+use Rattle.records.proofs.Reading.{past-records, record-part}
 use borrow.Author.Needs.{needs}
 use Rattle.records.proofs.read.record_at.Statement.{statement}
 use Rattle.records.proofs.read.record_at.Tie as tie
 
-ruleset rules = (needs, reading-told, mark-told, past-records, record-part)
+ruleset rules = (needs, past-records, record-part)
 
 slice-aggregate-result : tie.Need-slice-aggregate-result
 slice-aggregate-result c = search rules

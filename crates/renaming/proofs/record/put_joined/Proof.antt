@@ -12,17 +12,17 @@ add-put-head c = search rules
 put-head-requires : tie.Need-put-head-requires
 put-head-requires c κs = search rules
 
-sub-join : tie.Need-sub-join
-sub-join c = search rules
+sub-join-by-blocks : tie.Need-sub-join-by-blocks
+sub-join-by-blocks c = search rules
 
-part-join-start : tie.Need-part-join-start
-part-join-start c = search rules
+part-join-by-blocks-start : tie.Need-part-join-by-blocks-start
+part-join-by-blocks-start c = search rules
 
-part-join-end : tie.Need-part-join-end
-part-join-end c = search rules
+part-join-by-blocks-end : tie.Need-part-join-by-blocks-end
+part-join-by-blocks-end c = search rules
 
-join-requires : tie.Need-join-requires
-join-requires c κs = search rules
+join-by-blocks-requires : tie.Need-join-by-blocks-requires
+join-by-blocks-requires c κs = search rules
 
 same-length : tie.Need-same-length
 same-length c = search rules
@@ -36,9 +36,9 @@ put-joined-spec =
     (tie.spec
     add-put-head
     put-head-requires
-    sub-join
-    part-join-start
-    part-join-end
-    join-requires
+    sub-join-by-blocks
+    part-join-by-blocks-start
+    part-join-by-blocks-end
+    join-by-blocks-requires
     same-length
     returns)

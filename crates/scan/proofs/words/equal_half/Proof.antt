@@ -25,7 +25,7 @@ add-result c = search needs
 returns-3 : tie.Need-returns-3
 returns-3 c =
     let start = c .before .before .before .before .before .before .args in
-    let same = word-agrees 4 (start .a .now) (start .b .now) (start .i) _ _ _ (c .before .before .half-at .ensures) (c .before .half-at2 .ensures) (c .if2 .left) (c .before .before .before .if1 .left) in
+    let same = word-agrees 4 (start .a .now) (start .b .now) (start .i) _ _ _ (c .before .before .half-at .ensures .0) (c .before .half-at2 .ensures .0) (c .if2 .left) (c .before .before .before .if1 .left) in
     (search needs, same (search needs) (search needs) (search needs) (search needs))
 
 pub equal-half-spec : {M : Type 1} → statement M

@@ -12,12 +12,12 @@ is-no-edge-requires c κs = search rules
 returns : tie.Need-returns
 returns c = search rules
 
-element-range-prefix-requires : tie.Need-element-range-prefix-requires
-element-range-prefix-requires c κs = search rules
+has-range-prefix-requires : tie.Need-has-range-prefix-requires
+has-range-prefix-requires c κs = search rules
 
 returns-2 : tie.Need-returns-2
 returns-2 c = search rules
 
 pub edge-fits-spec : {M : Type 1} → statement M
 edge-fits-spec =
-    tie.close (tie.spec is-no-edge-requires returns element-range-prefix-requires returns-2)
+    tie.close (tie.spec is-no-edge-requires returns has-range-prefix-requires returns-2)

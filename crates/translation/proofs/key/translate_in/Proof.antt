@@ -14,14 +14,14 @@ record-at-requires c κs = search rules
 is-no-edge-requires : tie.Need-is-no-edge-requires
 is-no-edge-requires c κs = search rules
 
-slice-aggregate-change-prefix : tie.Need-slice-aggregate-change-prefix
-slice-aggregate-change-prefix c = search rules
+slice-aggregate-change-prefix-small : tie.Need-slice-aggregate-change-prefix-small
+slice-aggregate-change-prefix-small c = search rules
 
-slice-aggregate-change-prefix-2 : tie.Need-slice-aggregate-change-prefix-2
-slice-aggregate-change-prefix-2 c = search rules
+slice-aggregate-change-prefix-small-2 : tie.Need-slice-aggregate-change-prefix-small-2
+slice-aggregate-change-prefix-small-2 c = search rules
 
-change-prefix-requires : tie.Need-change-prefix-requires
-change-prefix-requires c κs = search rules
+change-prefix-small-requires : tie.Need-change-prefix-small-requires
+change-prefix-small-requires c κs = search rules
 
 same-length : tie.Need-same-length
 same-length c = search rules
@@ -44,14 +44,14 @@ record-at-requires-3 c κs = search rules
 range-prefix-len-requires : tie.Need-range-prefix-len-requires
 range-prefix-len-requires c κs = search rules
 
-slice-aggregate-change-prefix-3 : tie.Need-slice-aggregate-change-prefix-3
-slice-aggregate-change-prefix-3 c = search rules
+slice-aggregate-change-prefix-small-3 : tie.Need-slice-aggregate-change-prefix-small-3
+slice-aggregate-change-prefix-small-3 c = search rules
 
 key-bytes-requires-2 : tie.Need-key-bytes-requires-2
 key-bytes-requires-2 c κs = search rules
 
-change-prefix-requires-2 : tie.Need-change-prefix-requires-2
-change-prefix-requires-2 c κs = search rules
+change-prefix-small-requires-2 : tie.Need-change-prefix-small-requires-2
+change-prefix-small-requires-2 c κs = search rules
 
 same-length-2 : tie.Need-same-length-2
 same-length-2 c = search rules
@@ -65,9 +65,9 @@ translate-in-spec =
     (tie.spec
     record-at-requires
     is-no-edge-requires
-    slice-aggregate-change-prefix
-    slice-aggregate-change-prefix-2
-    change-prefix-requires
+    slice-aggregate-change-prefix-small
+    slice-aggregate-change-prefix-small-2
+    change-prefix-small-requires
     same-length
     returns
     record-at-requires-2
@@ -75,8 +75,8 @@ translate-in-spec =
     add-record-at
     record-at-requires-3
     range-prefix-len-requires
-    slice-aggregate-change-prefix-3
+    slice-aggregate-change-prefix-small-3
     key-bytes-requires-2
-    change-prefix-requires-2
+    change-prefix-small-requires-2
     same-length-2
     returns-2)
