@@ -1,32 +1,30 @@
 -- Two pairs that are there, composed by a change of prefix of the longer old prefix.
 use mathlib.Core.Path.{_≡_, refl, sym, ap, _∙_}
 use mathlib.Core.Bool.{Bool, true, false, cond, not, _||_, or-comm, or-false, false≢true}
-use mathlib.Core.List.{List, [], _∷_, map}
+use mathlib.Core.List.{List, [], _∷_}
 use mathlib.Core.Option.{Option, none, some}
 use mathlib.Core.Logic.{⊎-elim}
 use Prim.Native.Nat.{ℕ, _≤_, _<_}
 use native.Mathlib.Omega.{arith}
-use borrow.Author.Needs.{length-unmapped}
 use borrow.Author.Tests.{le-leb, lt-leb, le-ltb, lt-ltb}
 use lib.Dec.{leb}
-use lib.ListN.{length, take, length-take}
+use lib.ListN.{length, take}
 use Rattle.model.specs.declared.Refusal.{Refusal}
 use Rattle.model.specs.declared.Refusal.the-variants.{NotPrefix, TooLong}
 use Rattle.model.specs.declared.Answer.{Answer}
 use Rattle.model.specs.declared.Answer.the-variants as answers
 use Rattle.model.specs.keys.Key.{Key, tooLong, IsPrefix, changePrefix}
-use Rattle.model.specs.records.Record.{zeros, padded}
+use Rattle.model.specs.inner.Written.{clipped}
 use Rattle.model.specs.translation.PrefixSet.{PrefixSet, pair, ApplyPrefixSet, Composable, ComposePrefixSet, longPair}
-use Rattle.model.specs.translation.PairState.{PairState, stateWith, stateOf}
-use Rattle.model.specs.calls.Refusals.{Cause, _⇒_, outcome, first, answer, over}
+use Rattle.model.specs.translation.PairState.{PairState, stateOf}
+use Rattle.model.specs.calls.Refusals.{Cause, _⇒_, outcome, first, answer}
 use Rattle.model.specs.calls.KeyCalls.{changePrefixCauses, changePrefixAnswer, changePrefixLeaves}
 use Rattle.model.specs.calls.PairCalls.{thereNumber, pairAnswer, pairBeside, composition}
-use Rattle.model.proofs.Lists.{le-or-lt, part-counts}
+use Rattle.model.proofs.Lists.{clipped-all, le-or-lt}
 use Rattle.model.proofs.keys.Key.{prefix-refl, prefix-nested}
 use Rattle.model.proofs.calls.Refusals.{refused-by, passed, refused}
-use Rattle.model.proofs.calls.KeyCalls.{change-accepted, change-counts}
+use Rattle.model.proofs.calls.KeyCalls.{change-accepted, change-counts, change-most, change-head, change-inside}
 use Rattle.model.proofs.calls.TableCalls.{not-too-long}
-use Rattle.pairs.proofs.Padding.{drop-zeros}
 
 -- of a change of prefix into 64 bytes, where all are short, only 7 and 8 may apply
 changeRefusals : Key → Key → Key → List Cause
@@ -66,16 +64,16 @@ module _ (ap aq bp bq : List ℕ) where
   composed-first h = rw (lt-leb (length ap) (length bp) h)
 
   -- the change has the causes of the composition
-  module _ (room : List ℕ) (x : length room ≡ 64) (b : length aq ≤ 64) (d : length bq ≤ 64) where
-    pub second-causes : length ap ≤ length bp → length bp ≤ 64 → first (changePrefixCauses bp ap aq room) ≡ first (composition (pair ap aq) (pair bp bq))
+  module _ (room : List ℕ) (a : length ap ≤ 64) (b : length aq ≤ 64) (c : length bp ≤ 64) (d : length bq ≤ 64) (x : length room ≡ 64) where
+    pub second-causes : length ap ≤ length bp → first (changePrefixCauses bp ap aq room) ≡ first (composition (pair ap aq) (pair bp bq))
     unfolding outcome Composable longPair changeRefusals
-    second-causes h c = only-two bp ap aq room c (omega arith) b x ∙ rw (composed-second h, shorter ap bp h, not-too-long bq d)
+    second-causes h = only-two bp ap aq room c a b x ∙ rw (composed-second h, shorter ap bp h, not-too-long bq d)
 
-    pub first-causes : length bp < length ap → length ap ≤ 64 → first (changePrefixCauses ap bp bq room) ≡ first (composition (pair ap aq) (pair bp bq))
+    pub first-causes : length bp < length ap → first (changePrefixCauses ap bp bq room) ≡ first (composition (pair ap aq) (pair bp bq))
     unfolding outcome Composable longPair changeRefusals
-    first-causes h a =
+    first-causes h =
         let i : length bp ≤ length ap = omega arith in
-        only-two ap bp bq room a (omega arith) d x
+        only-two ap bp bq room a c d x
         ∙ rw (composed-first h, or-comm (IsPrefix ap bp) (IsPrefix bp ap), shorter bp ap i, not-too-long aq b, or-false (tooLong (changePrefix bp bq ap)))
 
 -- the pair composed of two that are there is there
@@ -101,61 +99,32 @@ module _ (k p q room : List ℕ) (a : Answer) (h : a ≡ changePrefixAnswer k p 
     pub refusal-pair : (o : Option PrefixSet) (z : PairState) → z ≡ stateOf none → z ≡ pairBeside cs o
     refusal-pair o z y = refused-by (λ (_ : Refusal). stateOf none) _ z cs r refusal y
 
-  -- where it is accepted, the pair that is there is the outcome
-  module _ (n : ℕ) (f : a ≡ answers.Value n) (cs : List Cause) (e : first (changePrefixCauses k p q room) ≡ first cs) where
-    pub there-answer : (c d : PrefixSet) (x : Answer) → x ≡ answers.Value 1 → x ≡ pairAnswer cs (ComposePrefixSet (some c) (some d))
-    there-answer c d x y = passed answers.Refused _ x cs (sym e ∙ change-accepted k p q room a h n f) (y ∙ ap answers.Value (one-there c d))
+  -- where it is accepted, the changed prefix stands at the head of its room
+  module _ (n : ℕ) (f : a ≡ answers.Value n) where
+    module _ (w : List ℕ) (g : w ≡ changePrefixLeaves k p q room) where
+      -- inside it
+      pub head-inside : length room ≡ 64 → n ≤ length w
+      head-inside x = change-inside k p q room a h n f w g (omega arith)
 
-    pub there-pair : (o : Option PrefixSet) (y z : PairState) → z ≡ y → y ≡ stateOf o → z ≡ pairBeside cs o
-    there-pair o y z g i = passed (λ (_ : Refusal). stateOf none) _ z cs (sym e ∙ change-accepted k p q room a h n f) (g ∙ i)
+      changed-is : clipped (take n w) ≡ changePrefix p q k
+      changed-is = rw (change-head k p q room a h n f w g) (clipped-all (changePrefix p q k) (omega (arith, change-counts k p q room a h n f, change-most k p q room a h n f)))
 
--- a prefix changed over zeros stands in its array
-module _ (k p q w : List ℕ) (a : Answer) (n : ℕ) (f : a ≡ answers.Value n)
-    (h : a ≡ changePrefixAnswer k p q (zeros 64)) (g : w ≡ changePrefixLeaves k p q (zeros 64)) where
-  stands : w ≡ padded (changePrefix p q k)
-  unfolding over
-  stands =
-      g
-      ∙ sym (passed (λ (_ : Refusal). zeros 64) _ _ (changePrefixCauses k p q (zeros 64)) (change-accepted k p q (zeros 64) a h n f) refl)
-      ∙ rw drop-zeros
+    -- and the pair that is made is the outcome
+    module _ (cs : List Cause) (e : first (changePrefixCauses k p q room) ≡ first cs) where
+      pub made-answer : (c d : PrefixSet) (x : Answer) → x ≡ answers.Value 1 → x ≡ pairAnswer cs (ComposePrefixSet (some c) (some d))
+      made-answer c d x y = passed answers.Refused _ x cs (sym e ∙ change-accepted k p q room a h n f) (y ∙ ap answers.Value (one-there c d))
 
-  counted : n ≡ length (changePrefix p q k)
-  counted = change-counts k p q (zeros 64) a h n f
+      pub made-pair : (o s : Option PrefixSet) (z : PairState) → z ≡ stateOf s → s ≡ o → z ≡ pairBeside cs o
+      made-pair o s z y i = passed (λ (_ : Refusal). stateOf none) _ z cs (sym e ∙ change-accepted k p q room a h n f) (y ∙ ap stateOf i)
 
--- and the pair of it and the other prefix is the composed one
-module _ (k p q b v w : List ℕ) (a : Answer) (n m : ℕ) (f : a ≡ answers.Value n)
-    (h : a ≡ changePrefixAnswer k p q (zeros 64)) (g : w ≡ changePrefixLeaves k p q (zeros 64))
-    (c : m ≤ 64) (d : length b ≡ 64) (e : v ≡ padded (take m b)) where
-  kept : m ≡ length (take m b)
-  kept = part-counts m b (omega arith)
+-- the pair that is made is the composed one
+module _ (ap aq bp bq room w : List ℕ) (a : Answer) (n : ℕ) (f : a ≡ answers.Value n) where
+  pub second-made : a ≡ changePrefixAnswer bp ap aq room → w ≡ changePrefixLeaves bp ap aq room → length bq ≤ 64 → length ap ≤ length bp
+      → pair (clipped bq) (clipped (take n w)) ≡ ComposePrefixSet (pair ap aq) (pair bp bq)
+  second-made h g d i = rw (composed-second ap aq bp bq i, clipped-all bq d, changed-is bp ap aq room a h n f w g)
 
-  pub second-there : length p ≤ length k
-      → _≡_ {A = PairState} (record { there = true; oldLength = m; newLength = n; oldBytes = v; newBytes = w }) (stateOf (ComposePrefixSet (pair p q) (pair k (take m b))))
-  unfolding stateOf stateWith
-  second-there i = rw (composed-second p q k (take m b) i) (cc (kept, counted k p q w a n f h g, stands k p q w a n f h g))
+  pub first-made : a ≡ changePrefixAnswer ap bp bq room → w ≡ changePrefixLeaves ap bp bq room → length aq ≤ 64 → length bp < length ap
+      → pair (clipped (take n w)) (clipped aq) ≡ ComposePrefixSet (pair ap aq) (pair bp bq)
+  first-made h g d i = rw (composed-first ap aq bp bq i, clipped-all aq d, changed-is ap bp bq room a h n f w g)
 
-  pub first-there : length p < length k
-      → _≡_ {A = PairState} (record { there = true; oldLength = n; newLength = m; oldBytes = w; newBytes = v }) (stateOf (ComposePrefixSet (pair k (take m b)) (pair p q)))
-  unfolding stateOf stateWith
-  first-there i = rw (composed-first k (take m b) p q i) (cc (kept, counted k p q w a n f h g, stands k p q w a n f h g))
-
--- ---- the heads of arrays
-
--- a head of at most 64 bytes ends inside an array of 64
-pub head-inside : (n : ℕ) (b : List ℕ) → n ≤ 64 → length (map (λ (x : ℕ). x) b) ≡ 64 → n ≤ length b
-head-inside n b h e = omega (arith, length-unmapped ℕ b 64 e)
-
-pub head-short : (n : ℕ) (b : List ℕ) → n ≤ 64 → length (take n b) ≤ 64
-head-short n b h = omega (arith, length-take n b)
-
--- heads are as long as their lengths say
-module _ (n i : ℕ) (a b : List ℕ) (e : length (map (λ (x : ℕ). x) b) ≡ 64) (m : i ≤ 64) where
-  pub heads-le : n ≤ i → length (take n a) ≤ length (take i b)
-  heads-le h = omega (arith, length-unmapped ℕ b 64 e, length-take n a, length-take i b)
-
-  pub heads-lt : n < i → length (take n a) < length (take i b)
-  heads-lt h = omega (arith, length-unmapped ℕ b 64 e, length-take n a, length-take i b)
-
-pub ruleset composing = (second-causes, first-causes, refusal-answer, refusal-pair, there-answer, there-pair, second-there, first-there, head-short)
-
-pub ruleset heads = (head-inside, head-short, heads-le, heads-lt)
+pub ruleset composing = (second-causes, first-causes, refusal-answer, refusal-pair, head-inside, made-answer, made-pair, second-made, first-made)

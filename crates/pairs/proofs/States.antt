@@ -111,9 +111,9 @@ module _ (y t : Bool) (n m : ℕ) (a b : List ℕ)
   pub new-inside : (c : List ℕ) → length (map (λ (v : ℕ). v) c) ≡ 64 → m ≤ length c
   new-inside c i = let s = short in omega (arith, length-unmapped ℕ c 64 i)
 
-  -- which are at most 64
-  pub old-short : n ≤ 64
-  old-short = short .old
+  -- and have at most 64 bytes
+  pub old-short : length (take n a) ≤ 64
+  old-short = short-pair _ (told-false t _ e f) g .old
 
-  pub new-short : m ≤ 64
-  new-short = short .new
+  pub new-short : length (take m b) ≤ 64
+  new-short = short-pair _ (told-false t _ e f) g .new

@@ -1,13 +1,12 @@
 // Results of calls on pairs, and composing two pairs that are there.
 use crate::Paired;
 use crate::PrefixSet;
-use crate::pad::cleared;
 use model::Answer;
 ghost use mathlib.Core.Path.{_≡_};
 ghost use mathlib.Core.Bool.{true};
 ghost use mathlib.Core.Option.{none};
-ghost use Prim.Native.Nat.{_≤_, _<_};
-ghost use lib.ListN.{length, take};
+ghost use Prim.Native.Nat.{_≤_};
+ghost use lib.ListN.{length};
 ghost use Rattle.model.specs.keys.Key.{maxLen};
 ghost use Rattle.model.specs.inner.Written.{clipped};
 ghost use Rattle.model.specs.translation.PrefixSet.{pair, ComposePrefixSet};
@@ -51,52 +50,24 @@ pub(crate) fn there(old: [u8; 64], oldlen: usize, new: [u8; 64], newlen: usize) 
     }
 }
 
-// The pair that undoes bp to bq and then does ap to aq, where ap is not longer than bp: bp changed, beside bq. What is
-// changed stands over zeros, as an array of a pair does. Refuses 7 and 8.
-fn second_changed(ap: &[u8], aq: &[u8], bp: &[u8], bq: &[u8], j: usize) -> Paired
-    requires { ⌜ (length (now ap) ≤ length (now bp)) × (length (now aq) ≤ maxLen) × (length (now bp) ≤ maxLen) × (length (now bq) ≡ maxLen) × (j ≤ maxLen) ⌝ }
-    ensures answered { λ r. ⌜ r .answer ≡ pairAnswer (composition (pair (now (ap .entry)) (now (aq .entry))) (pair (now (bp .entry)) (take j (now (bq .entry))))) (ComposePrefixSet (pair (now (ap .entry)) (now (aq .entry))) (pair (now (bp .entry)) (take j (now (bq .entry))))) ⌝ }
-    ensures paired { λ r. ⌜ state (r .pair) ≡ pairBeside (composition (pair (now (ap .entry)) (now (aq .entry))) (pair (now (bp .entry)) (take j (now (bq .entry))))) (ComposePrefixSet (pair (now (ap .entry)) (now (aq .entry))) (pair (now (bp .entry)) (take j (now (bq .entry))))) ⌝ }
+// The pair that undoes bp to bq and then does ap to aq: the longer old prefix, changed by the pair with the shorter one,
+// beside the longer one's own new prefix. Refuses 7 and 8.
+pub(crate) fn composed(ap: &[u8], aq: &[u8], bp: &[u8], bq: &[u8]) -> Paired
+    requires { ⌜ (length (now ap) ≤ maxLen) × (length (now aq) ≤ maxLen) × (length (now bp) ≤ maxLen) × (length (now bq) ≤ maxLen) ⌝ }
+    ensures answered { λ r. ⌜ r .answer ≡ pairAnswer (composition (pair (now (ap .entry)) (now (aq .entry))) (pair (now (bp .entry)) (now (bq .entry)))) (ComposePrefixSet (pair (now (ap .entry)) (now (aq .entry))) (pair (now (bp .entry)) (now (bq .entry)))) ⌝ }
+    ensures paired { λ r. ⌜ state (r .pair) ≡ pairBeside (composition (pair (now (ap .entry)) (now (aq .entry))) (pair (now (bp .entry)) (now (bq .entry)))) (ComposePrefixSet (pair (now (ap .entry)) (now (aq .entry))) (pair (now (bp .entry)) (now (bq .entry)))) ⌝ }
 {
     let mut room = [0u8; 64];
-    let changed = keys::change_prefix_small(bp, ap, aq, &mut room);
-    let Answer::Value(k) = changed else {
+    if ap.len() <= bp.len() {
+        let changed = keys::change_prefix_small(bp, ap, aq, &mut room);
+        let Answer::Value(n) = changed else {
+            return beside(changed);
+        };
+        return made(bq, &room[..n]);
+    }
+    let changed = keys::change_prefix_small(ap, bp, bq, &mut room);
+    let Answer::Value(n) = changed else {
         return beside(changed);
     };
-    there(cleared(bq, j), j, room, k)
-}
-
-// The same where ap is the longer: ap changed, beside aq.
-fn first_changed(ap: &[u8], aq: &[u8], m: usize, bp: &[u8], bq: &[u8]) -> Paired
-    requires { ⌜ (length (now bp) < length (now ap)) × (length (now ap) ≤ maxLen) × (length (now bq) ≤ maxLen) × (length (now aq) ≡ maxLen) × (m ≤ maxLen) ⌝ }
-    ensures answered { λ r. ⌜ r .answer ≡ pairAnswer (composition (pair (now (ap .entry)) (take m (now (aq .entry)))) (pair (now (bp .entry)) (now (bq .entry)))) (ComposePrefixSet (pair (now (ap .entry)) (take m (now (aq .entry)))) (pair (now (bp .entry)) (now (bq .entry)))) ⌝ }
-    ensures paired { λ r. ⌜ state (r .pair) ≡ pairBeside (composition (pair (now (ap .entry)) (take m (now (aq .entry)))) (pair (now (bp .entry)) (now (bq .entry)))) (ComposePrefixSet (pair (now (ap .entry)) (take m (now (aq .entry)))) (pair (now (bp .entry)) (now (bq .entry)))) ⌝ }
-{
-    let mut room = [0u8; 64];
-    let answer = keys::change_prefix_small(ap, bp, bq, &mut room);
-    let Answer::Value(k) = answer else {
-        return beside(answer);
-    };
-    there(room, k, cleared(aq, m), m)
-}
-
-// The pair that undoes b and then does a, where both are there: the longer old prefix, changed by the pair with the
-// shorter one, beside the longer one's own new prefix. Refuses 7 and 8.
-pub(crate) fn composed(a: PrefixSet, b: PrefixSet) -> Paired
-    requires { ⌜ (a .oldlen ≤ maxLen) × (a .newlen ≤ maxLen) × (b .oldlen ≤ maxLen) × (b .newlen ≤ maxLen) ⌝ }
-    ensures answered { λ r. ⌜ r .answer ≡ pairAnswer (composition (pair (take (a .oldlen) (a .old)) (take (a .newlen) (a .new))) (pair (take (b .oldlen) (b .old)) (take (b .newlen) (b .new)))) (ComposePrefixSet (pair (take (a .oldlen) (a .old)) (take (a .newlen) (a .new))) (pair (take (b .oldlen) (b .old)) (take (b .newlen) (b .new)))) ⌝ }
-    ensures paired { λ r. ⌜ state (r .pair) ≡ pairBeside (composition (pair (take (a .oldlen) (a .old)) (take (a .newlen) (a .new))) (pair (take (b .oldlen) (b .old)) (take (b .newlen) (b .new)))) (ComposePrefixSet (pair (take (a .oldlen) (a .old)) (take (a .newlen) (a .new))) (pair (take (b .oldlen) (b .old)) (take (b .newlen) (b .new)))) ⌝ }
-{
-    let ap = a.old;
-    let aq = a.new;
-    let bp = b.old;
-    let bq = b.new;
-    let n = a.oldlen;
-    let m = a.newlen;
-    let i = b.oldlen;
-    let j = b.newlen;
-    if n <= i {
-        return second_changed(&ap[..n], &aq[..m], &bp[..i], &bq, j);
-    }
-    first_changed(&ap[..n], &aq, m, &bp[..i], &bq[..j])
+    made(&room[..n], aq)
 }

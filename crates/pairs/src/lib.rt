@@ -132,13 +132,17 @@ impl PrefixSet {
         if !self.there {
             return b.reverse();
         }
+        let ap = self.old;
+        let aq = self.new;
+        let n = self.oldlen;
+        let m = self.newlen;
         if !b.there {
-            let old = self.old;
-            let new = self.new;
-            let n = self.oldlen;
-            let m = self.newlen;
-            return made(&old[..n], &new[..m]);
+            return made(&ap[..n], &aq[..m]);
         }
-        composed(self, b)
+        let bp = b.old;
+        let bq = b.new;
+        let i = b.oldlen;
+        let j = b.newlen;
+        composed(&ap[..n], &aq[..m], &bp[..i], &bq[..j])
     }
 }

@@ -33,14 +33,14 @@ reverse-requires c κs = search rules
 returns-3 : tie.Need-returns-3
 returns-3 c = (search rules, search rules)
 
-array-share-prefix-old : tie.Need-array-share-prefix-old
-array-share-prefix-old c = search old-inside
+array-share-prefix-ap : tie.Need-array-share-prefix-ap
+array-share-prefix-ap c = search old-inside
 
 slice-aggregate-made : tie.Need-slice-aggregate-made
 slice-aggregate-made c = search (part-counts, old-inside)
 
-array-share-prefix-new : tie.Need-array-share-prefix-new
-array-share-prefix-new c = search new-inside
+array-share-prefix-aq : tie.Need-array-share-prefix-aq
+array-share-prefix-aq c = search new-inside
 
 slice-aggregate-made-2 : tie.Need-slice-aggregate-made-2
 slice-aggregate-made-2 c = search (part-counts, new-inside)
@@ -50,6 +50,30 @@ made-requires c κs = search rules
 
 returns-4 : tie.Need-returns-4
 returns-4 c = (search rules, search rules)
+
+array-share-prefix-ap-2 : tie.Need-array-share-prefix-ap-2
+array-share-prefix-ap-2 c = search old-inside
+
+slice-aggregate-composed : tie.Need-slice-aggregate-composed
+slice-aggregate-composed c = search (part-counts, old-inside)
+
+array-share-prefix-aq-2 : tie.Need-array-share-prefix-aq-2
+array-share-prefix-aq-2 c = search new-inside
+
+slice-aggregate-composed-2 : tie.Need-slice-aggregate-composed-2
+slice-aggregate-composed-2 c = search (part-counts, new-inside)
+
+array-share-prefix-bp : tie.Need-array-share-prefix-bp
+array-share-prefix-bp c = search old-inside
+
+slice-aggregate-composed-3 : tie.Need-slice-aggregate-composed-3
+slice-aggregate-composed-3 c = search (part-counts, old-inside)
+
+array-share-prefix-bq : tie.Need-array-share-prefix-bq
+array-share-prefix-bq c = search new-inside
+
+slice-aggregate-composed-4 : tie.Need-slice-aggregate-composed-4
+slice-aggregate-composed-4 c = search (part-counts, new-inside)
 
 composed-requires : tie.Need-composed-requires
 composed-requires c κs = (search old-short, search new-short, search old-short, search new-short)
@@ -69,11 +93,19 @@ compose-spec =
     returns-2
     reverse-requires
     returns-3
-    array-share-prefix-old
+    array-share-prefix-ap
     slice-aggregate-made
-    array-share-prefix-new
+    array-share-prefix-aq
     slice-aggregate-made-2
     made-requires
     returns-4
+    array-share-prefix-ap-2
+    slice-aggregate-composed
+    array-share-prefix-aq-2
+    slice-aggregate-composed-2
+    array-share-prefix-bp
+    slice-aggregate-composed-3
+    array-share-prefix-bq
+    slice-aggregate-composed-4
     composed-requires
     returns-5)

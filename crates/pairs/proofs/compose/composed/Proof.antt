@@ -1,85 +1,93 @@
 -- `pairs::composed` meets its contract.
 use Rattle.model.proofs.Lists.{part-counts}
-use Rattle.pairs.proofs.Composing.{heads}
+use Rattle.pairs.proofs.Composing.{composing}
 use borrow.Author.Needs.{needs}
 use Rattle.pairs.proofs.compose.composed.Statement.{statement}
 use Rattle.pairs.proofs.compose.composed.Tie as tie
 
-ruleset rules = (needs, part-counts, heads)
+ruleset rules = (needs, part-counts, composing)
 
-array-share-prefix-ap : tie.Need-array-share-prefix-ap
-array-share-prefix-ap c = search rules
+slice-aggregate-change-prefix-small : tie.Need-slice-aggregate-change-prefix-small
+slice-aggregate-change-prefix-small c = search rules
 
-slice-aggregate-second-changed : tie.Need-slice-aggregate-second-changed
-slice-aggregate-second-changed c = search rules
+change-prefix-small-requires : tie.Need-change-prefix-small-requires
+change-prefix-small-requires c κs = search rules
 
-array-share-prefix-aq : tie.Need-array-share-prefix-aq
-array-share-prefix-aq c = search rules
+enum-known-changed : tie.Need-enum-known-changed
+enum-known-changed c = search rules
 
-slice-aggregate-second-changed-2 : tie.Need-slice-aggregate-second-changed-2
-slice-aggregate-second-changed-2 c = search rules
+enum-told : tie.Need-enum-told
+enum-told c = search rules
 
-array-share-prefix-bp : tie.Need-array-share-prefix-bp
-array-share-prefix-bp c = search rules
-
-slice-aggregate-second-changed-3 : tie.Need-slice-aggregate-second-changed-3
-slice-aggregate-second-changed-3 c = search rules
-
-slice-aggregate-second-changed-4 : tie.Need-slice-aggregate-second-changed-4
-slice-aggregate-second-changed-4 c = search rules
-
-second-changed-requires : tie.Need-second-changed-requires
-second-changed-requires c κs = search rules
+beside-requires : tie.Need-beside-requires
+beside-requires c κs = search rules
 
 returns : tie.Need-returns
 returns c = (search rules, search rules)
 
-array-share-prefix-ap-2 : tie.Need-array-share-prefix-ap-2
-array-share-prefix-ap-2 c = search rules
+array-share-prefix-room : tie.Need-array-share-prefix-room
+array-share-prefix-room c = search rules
 
-slice-aggregate-first-changed : tie.Need-slice-aggregate-first-changed
-slice-aggregate-first-changed c = search rules
+slice-aggregate-made : tie.Need-slice-aggregate-made
+slice-aggregate-made c = search rules
 
-slice-aggregate-first-changed-2 : tie.Need-slice-aggregate-first-changed-2
-slice-aggregate-first-changed-2 c = search rules
-
-array-share-prefix-bp-2 : tie.Need-array-share-prefix-bp-2
-array-share-prefix-bp-2 c = search rules
-
-slice-aggregate-first-changed-3 : tie.Need-slice-aggregate-first-changed-3
-slice-aggregate-first-changed-3 c = search rules
-
-array-share-prefix-bq : tie.Need-array-share-prefix-bq
-array-share-prefix-bq c = search rules
-
-slice-aggregate-first-changed-4 : tie.Need-slice-aggregate-first-changed-4
-slice-aggregate-first-changed-4 c = search rules
-
-first-changed-requires : tie.Need-first-changed-requires
-first-changed-requires c κs = search rules
+made-requires : tie.Need-made-requires
+made-requires c κs = search rules
 
 returns-2 : tie.Need-returns-2
 returns-2 c = (search rules, search rules)
+
+slice-aggregate-change-prefix-small-2 : tie.Need-slice-aggregate-change-prefix-small-2
+slice-aggregate-change-prefix-small-2 c = search rules
+
+change-prefix-small-requires-2 : tie.Need-change-prefix-small-requires-2
+change-prefix-small-requires-2 c κs = search rules
+
+enum-known-changed-2 : tie.Need-enum-known-changed-2
+enum-known-changed-2 c = search rules
+
+enum-told-2 : tie.Need-enum-told-2
+enum-told-2 c = search rules
+
+beside-requires-2 : tie.Need-beside-requires-2
+beside-requires-2 c κs = search rules
+
+returns-3 : tie.Need-returns-3
+returns-3 c = (search rules, search rules)
+
+array-share-prefix-room-2 : tie.Need-array-share-prefix-room-2
+array-share-prefix-room-2 c = search rules
+
+slice-aggregate-made-2 : tie.Need-slice-aggregate-made-2
+slice-aggregate-made-2 c = search rules
+
+made-requires-2 : tie.Need-made-requires-2
+made-requires-2 c κs = search rules
+
+returns-4 : tie.Need-returns-4
+returns-4 c = (search rules, search rules)
 
 pub composed-spec : {M : Type 1} → statement M
 composed-spec =
     tie.close
     (tie.spec
-    array-share-prefix-ap
-    slice-aggregate-second-changed
-    array-share-prefix-aq
-    slice-aggregate-second-changed-2
-    array-share-prefix-bp
-    slice-aggregate-second-changed-3
-    slice-aggregate-second-changed-4
-    second-changed-requires
+    slice-aggregate-change-prefix-small
+    change-prefix-small-requires
+    enum-known-changed
+    enum-told
+    beside-requires
     returns
-    array-share-prefix-ap-2
-    slice-aggregate-first-changed
-    slice-aggregate-first-changed-2
-    array-share-prefix-bp-2
-    slice-aggregate-first-changed-3
-    array-share-prefix-bq
-    slice-aggregate-first-changed-4
-    first-changed-requires
-    returns-2)
+    array-share-prefix-room
+    slice-aggregate-made
+    made-requires
+    returns-2
+    slice-aggregate-change-prefix-small-2
+    change-prefix-small-requires-2
+    enum-known-changed-2
+    enum-told-2
+    beside-requires-2
+    returns-3
+    array-share-prefix-room-2
+    slice-aggregate-made-2
+    made-requires-2
+    returns-4)
