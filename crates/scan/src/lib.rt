@@ -123,7 +123,8 @@ pub fn is_prefix(p: &[u8], k: &[u8]) -> bool
     common_run(p, k) == p.len()
 }
 
-// The same by words, for a prefix that is tested against many keys. For one key `is_prefix` is as quick, and smaller.
+// The same by words to the end, for a prefix that is tested against many keys or is the call's main work. `is_prefix` is
+// smaller.
 pub fn is_prefix_by_words(p: &[u8], k: &[u8]) -> bool
     ensures { λ r. ⌜ r ≡ IsPrefix (now (p .entry)) (now (k .entry)) ⌝ }
 {

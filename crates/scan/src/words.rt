@@ -28,8 +28,8 @@ fn word_at(s: &[u8], at: usize) -> u64
     half_at(s, at) + half_at(s, at + 4) * 4294967296
 }
 
-// The eight bytes from a place on, the first the highest: such words are in the order of their bytes. It is the word before
-// with its bytes turned round, for which the compiler has one instruction.
+// The eight bytes from a place on, the first the highest: such words are in the order of their bytes. It is `word_at` with
+// its bytes turned round, for which the compiler has one instruction.
 pub(crate) fn big_at(s: &[u8], at: usize) -> u64
     requires { ⌜ at + 8 ≤ length (now s) ⌝ }
     ensures { λ r. ⌜ r ≡ bigOf 8 0 (drop at (now (s .entry))) ⌝ }
