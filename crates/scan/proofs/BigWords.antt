@@ -4,7 +4,7 @@ use mathlib.Core.Bool.{Bool, true, false, true≢false}
 use mathlib.Core.List.{List, [], _∷_, _++_}
 use Prim.Native.Nat.{ℕ, zero, suc, _+_, _*_, _-_, _/_, _%_, _≤_, _<_, min}
 use native.Mathlib.Omega.{arith}
-use mir.Syntax.{w8, w64}
+use mir.Syntax.{w8}
 use mir.Val.{Fits}
 use borrow.Author.Tests.{ltb-true, ltb-false}
 use lib.Dec.{ltb}
@@ -164,20 +164,9 @@ big-is s i =
 low-byte : (b w : ℕ) → b < 256 → (b + 256 * w) % 256 ≡ b
 low-byte b w h = omega arith
 
--- the sum of a word's bytes in the other order is a word
-pub turned-fits : (x : ℕ) → Fits w64 x → Fits w64 ((x % 256) * 72057594037927936 + (x / 256 % 256) * 281474976710656 + (x / 65536 % 256) * 1099511627776 + (x / 16777216 % 256) * 4294967296
-    + (x / 4294967296 % 256) * 16777216 + (x / 1099511627776 % 256) * 65536 + (x / 281474976710656 % 256) * 256 + x / 72057594037927936)
-turned-fits x h =
-    go (x % 256) (x / 256 % 256) (x / 65536 % 256) (x / 16777216 % 256) (x / 4294967296 % 256) (x / 1099511627776 % 256) (x / 281474976710656 % 256)
-    (x / 72057594037927936) (omega arith) (omega arith) (omega arith) (omega arith) (omega arith) (omega arith) (omega arith) (omega (arith, h .fits))
-  where
-    go : (a b c d e f g h : ℕ) → a < 256 → b < 256 → c < 256 → d < 256 → e < 256 → f < 256 → g < 256 → h < 256
-        → Fits w64 (a * 72057594037927936 + b * 281474976710656 + c * 1099511627776 + d * 4294967296 + e * 16777216 + f * 65536 + g * 256 + h)
-    go a b c d e f g h i j k l m n o p = record { fits = omega arith }
-
 pub turned-word : (s : List ℕ) (i x : ℕ) → ((j : ℕ) → Fits w8 (getD s j 0)) → x ≡ wordOf 8 (drop i s)
     → (x % 256) * 72057594037927936 + (x / 256 % 256) * 281474976710656 + (x / 65536 % 256) * 1099511627776 + (x / 16777216 % 256) * 4294967296
-    + (x / 4294967296 % 256) * 16777216 + (x / 1099511627776 % 256) * 65536 + (x / 281474976710656 % 256) * 256 + x / 72057594037927936
+    + (x / 4294967296 % 256) * 16777216 + (x / 1099511627776 % 256) * 65536 + (x / 281474976710656 % 256) * 256 + x / 72057594037927936 % 256
     ≡ bigOf 8 0 (drop i s)
 turned-word s i x p u =
     let f0 = p i .fits in
@@ -211,5 +200,5 @@ turned-word s i x p u =
     let m4 : x / 4294967296 % 256 ≡ getD s (i + 4) 0 = rw (x4, w4) (low-byte (getD s (i + 4) 0) (wordOf 3 (drop (i + 5) s)) f4) in
     let m5 : x / 1099511627776 % 256 ≡ getD s (i + 5) 0 = rw (x5, w5) (low-byte (getD s (i + 5) 0) (wordOf 2 (drop (i + 6) s)) f5) in
     let m6 : x / 281474976710656 % 256 ≡ getD s (i + 6) 0 = rw (x6, w6) (low-byte (getD s (i + 6) 0) (wordOf 1 (drop (i + 7) s)) f6) in
-    let m7 : x / 72057594037927936 ≡ getD s (i + 7) 0 = rw (x7, w7, z) (omega arith) in
+    let m7 : x / 72057594037927936 % 256 ≡ getD s (i + 7) 0 = rw (x7, w7, z) (low-byte (getD s (i + 7) 0) 0 f7) in
     rw (m0, m1, m2, m3, m4, m5, m6, m7) (sym (big-is s i))

@@ -42,7 +42,7 @@ pub(crate) fn big_at(s: &[u8], at: usize) -> u64
         + (x / 4294967296 % 256) * 16777216
         + (x / 1099511627776 % 256) * 65536
         + (x / 281474976710656 % 256) * 256
-        + x / 72057594037927936
+        + x / 72057594037927936 % 256
 }
 
 // A place up to which the first n bytes agree, by words.

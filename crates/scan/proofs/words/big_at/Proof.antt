@@ -1,10 +1,10 @@
 -- `scan::big_at` meets its contract.
-use Rattle.scan.proofs.BigWords.{turned-fits, turned-word}
+use Rattle.scan.proofs.BigWords.{turned-word}
 use borrow.Author.Needs.{needs}
 use Rattle.scan.proofs.words.big_at.Statement.{statement}
 use Rattle.scan.proofs.words.big_at.Tie as tie
 
-ruleset rules = (needs, turned-fits, turned-word)
+ruleset rules = (needs, turned-word)
 
 word-at-requires : tie.Need-word-at-requires
 word-at-requires c κs = search rules
