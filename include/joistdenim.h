@@ -3,7 +3,7 @@
  *
  * One rule for every function:
  * - It returns 0, or the number of the first refusal that applies over all arguments, in the
- *   order in which the function names them: 1, 2, 3, 4, 13, 5, 11, 12, 6, 7, 8, 9, 10.
+ *   order in which the function names them: 1, 2, 3, 4, 13, 14, 5, 11, 12, 15, 6, 7, 8, 9, 10.
  * - What it answers goes through the last parameter, a pointer to one number.
  *   A refusal leaves that number, like every lent byte, as it was.
  * - A slice is a pointer and a length in bytes. A slice that is written overlaps nothing else
@@ -33,13 +33,14 @@
 /* The version. A new call raises the minor; a changed signature, answer or format the major.
  * CHANGELOG.md says what a caller must do. */
 #define JD_VERSION_MAJOR 2
-#define JD_VERSION_MINOR 1
-#define JD_VERSION_PATCH 1
+#define JD_VERSION_MINOR 2
+#define JD_VERSION_PATCH 0
 
 #define JD_MAX_LEN 64
 #define JD_RECORD_SIZE 66
 #define JD_ENTRY_SIZE 70
 #define JD_PAIR_SIZE 133
+#define JD_PLACE_SIZE 2
 #define JD_MIN_PIVOTS 2
 #define JD_MAX_PIVOTS 64
 #define JD_MAX_ENTRIES 512
@@ -49,19 +50,21 @@
 #define JD_MAX 65535
 
 enum jd_refusal {
-    JD_SHAPE = 1,            /* a slice isn't the records, entries or pair it should be */
-    JD_MALFORMED = 2,        /* a malformed record or pair, a wrong mark, or a key over 64 bytes */
-    JD_UNSORTED = 3,         /* pivots don't rise strictly */
-    JD_EMPTY_PREFIX = 4,     /* an edge where the range's prefix is empty */
-    JD_OUT_OF_RANGE = 5,     /* the key is outside the table's range */
-    JD_NO_SUCH_SLOT = 6,     /* no such slot, or no key at that place */
-    JD_NOT_PREFIX = 7,       /* an old prefix doesn't begin what it must */
-    JD_TOO_LONG = 8,         /* a produced key or prefix passes 64 bytes */
-    JD_NOT_BELOW = 9,        /* left isn't below right, or the last new pivot below the end */
-    JD_NO_ROOM = 10,         /* a destination is too short */
-    JD_ALREADY_PIVOT = 11,   /* the key is already a pivot */
-    JD_TOO_MANY_PIVOTS = 12, /* the table would have more than 64 pivots */
-    JD_NOT_MEETING = 13      /* the tables don't meet: one's last pivot isn't the other's first */
+    JD_SHAPE = 1,             /* a slice isn't the records, entries or pair it should be */
+    JD_MALFORMED = 2,         /* a malformed record or pair, a wrong mark, or a key over 64 bytes */
+    JD_UNSORTED = 3,          /* pivots don't rise strictly */
+    JD_EMPTY_PREFIX = 4,      /* an edge where the range's prefix is empty */
+    JD_OUT_OF_RANGE = 5,      /* a key is outside the table's range */
+    JD_NO_SUCH_SLOT = 6,      /* no such slot, or no key at that place */
+    JD_NOT_PREFIX = 7,        /* an old prefix doesn't begin what it must */
+    JD_TOO_LONG = 8,          /* a produced key or prefix passes 64 bytes */
+    JD_NOT_BELOW = 9,         /* left isn't below right, or the last new pivot below the end */
+    JD_NO_ROOM = 10,          /* a destination is too short */
+    JD_ALREADY_PIVOT = 11,    /* the key is already a pivot */
+    JD_TOO_MANY_PIVOTS = 12,  /* the table would have more than 64 pivots */
+    JD_NOT_MEETING = 13,      /* the tables don't meet: one's last pivot isn't the other's first */
+    JD_ENTRIES_UNSORTED = 14, /* the keys of a bucket don't rise strictly */
+    JD_WRONG_INDEX = 15       /* an index isn't the one that belongs to table and bucket */
 };
 
 #ifdef __cplusplus
@@ -162,6 +165,7 @@ uint32_t jd_list_table(const uint8_t *input, size_t input_len,
 }
 #endif
 
+#include "joistdenim_index.h"
 #include "joistdenim_tables.h"
 
 #endif

@@ -32,10 +32,11 @@ static inline slice grown(size_t length, uint8_t byte)
     return (slice){b, length};
 }
 
-/* A copy of what is lent, for afterwards. */
+/* A copy of what is lent, for afterwards. Nothing lent is longer than a bucket with an entry too
+ * many. */
 typedef struct {
     slice lent;
-    uint8_t bytes[(JD_MAX_PIVOTS + 2) * JD_RECORD_SIZE];
+    uint8_t bytes[(JD_MAX_ENTRIES + 1) * JD_ENTRY_SIZE];
 } copy;
 
 static inline void copied(copy *c, slice lent)

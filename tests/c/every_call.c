@@ -3,9 +3,9 @@
  * comes first where two apply. Around every destination stand bytes that must not change. Then a
  * key's way through a table: cuts, a new pivot, the halves joined and translations, whose refusals
  * are in cuts.c, insert.c and join.c. Then pairs, renamed pivots and edges, parent and child, a
- * bucket, and a table's list; more of these is in pairs.c, renaming.c, buckets.c and list.c.
+ * bucket, its index and a list; more is in pairs.c, renaming.c, buckets.c, index.c and list.c.
  */
-#include "bucket.h"
+#include "index.h"
 #include "pair.h"
 
 /* ---- compare */
@@ -248,6 +248,27 @@ static void drawer_renamed(void)
     fits("translate_bucket_will_fit: 2", drawer, (prefixes){over, none}, 0, JD_MALFORMED, 0);
 }
 
+/* ---- drawers found by shelf */
+
+static void drawers_indexed(void)
+{
+    indexed x = of_t();
+    drawers left = {part(x.bucket, 0, 1), PLACES(0, 1)}, all = {x.bucket, x.index};
+    drawers right = {part(x.bucket, 1, 4), PLACES(0, 1, 3)};
+    built("build_index", x.pivots, x.bucket, 6, 0, x.index);
+    built("build_index: 10", x.pivots, x.bucket, 5, JD_NO_ROOM, none);
+    checked("check_index", x, 0);
+    checked("check_index: 15", (indexed){x.pivots, x.bucket, none}, JD_WRONG_INDEX);
+    slot_has("slot_entries", x, 1, 0, 2);
+    slot_has("slot_entries: 6", x, 2, JD_NO_SUCH_SLOT, 0);
+    index_cut("cut_index_left", jd_cut_index_left, x, BYTES("A1"), roomy, 0, left);
+    index_cut("cut_index_left: 5", jd_cut_index_left, x, none, roomy, JD_OUT_OF_RANGE, unwritten);
+    index_cut("cut_index_right", jd_cut_index_right, x, BYTES("A1"), roomy, 0, right);
+    index_cut("cut_index_right: 5", jd_cut_index_right, x, none, roomy, JD_OUT_OF_RANGE, unwritten);
+    index_moved("translate_index", x, (prefixes){none, none}, roomy, 0, all);
+    index_moved("translate_index: 8", x, (prefixes){none, full}, roomy, JD_TOO_LONG, unwritten);
+}
+
 /* ---- the list of a table */
 
 static void list_table_checks(void)
@@ -272,6 +293,7 @@ int main(void)
     pairs_of_t();
     shelf_moved();
     drawer_renamed();
+    drawers_indexed();
     list_table_checks();
     return report();
 }

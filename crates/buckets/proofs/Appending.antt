@@ -25,7 +25,8 @@ use Rattle.model.proofs.records.Records.{joined-append}
 use Rattle.model.proofs.buckets.Entries.{length-encodeBucket}
 use Rattle.model.proofs.calls.Refusals.{none-here, none-later, none-before, none-after}
 use Rattle.model.proofs.calls.BucketCalls.{bucket-most, kept-sized}
-use Rattle.buckets.specs.Kept.{entryAt, Checked, Good, keptOf, keptBytes}
+use Rattle.model.specs.inner.Places.{entryAt}
+use Rattle.buckets.specs.Kept.{Checked, Good, keptOf, keptBytes}
 use Rattle.buckets.proofs.Measuring.{left, left-over, left-next, entry-checked, kept-most}
 
 -- the bytes of entries and then of others are those of all

@@ -26,7 +26,8 @@ use Rattle.model.proofs.buckets.Bucket.{translated-wft}
 use Rattle.model.proofs.calls.BucketCalls.{bucket-read, bucket-most, bucket-wrong}
 use Rattle.model.proofs.calls.Refusals.{accepted, value-is, none-here}
 use Rattle.model.proofs.calls.TableCalls.{either-fails}
-use Rattle.buckets.specs.Kept.{entryAt, Checked, Good, keptOf, longCauses}
+use Rattle.model.specs.inner.Places.{entryAt}
+use Rattle.buckets.specs.Kept.{Checked, Good, keptOf, longCauses}
 use Rattle.buckets.proofs.Places.{length-entryBytes, length-entries, entry-size}
 
 -- what the entries from a place on leave in the renamed bucket

@@ -11,7 +11,8 @@ use Rattle.model.specs.keys.Key.{IsPrefix}
 use Rattle.model.specs.records.Record.{recordSize, keyBytes}
 use Rattle.model.specs.buckets.Bucket.{entrySize, entryOf, entryBytes, entries}
 use Rattle.model.proofs.records.Records.{length-pieces, piece-at}
-use Rattle.buckets.specs.Kept.{entryAt, Checked}
+use Rattle.model.specs.inner.Places.{entryAt}
+use Rattle.buckets.specs.Kept.{Checked}
 
 -- there are as many as their size goes into the bytes
 pub length-entryBytes : (l : List ℕ) → length (entryBytes l) ≡ length l / entrySize

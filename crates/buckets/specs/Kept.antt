@@ -1,21 +1,17 @@
--- For the contracts of inner functions: the bytes of an entry, and what it leaves in a renamed bucket.
+-- For the contracts of inner functions: an entry that is checked, and what it leaves in a renamed bucket.
 use mathlib.Core.Path.{_≡_}
 use mathlib.Core.Bool.{true, not}
 use mathlib.Core.List.{List, [], _∷_}
 use mathlib.Core.Option.{none}
 use Prim.Native.Nat.{ℕ}
-use lib.ListN.{length, getD}
+use lib.ListN.{length}
 use Rattle.model.specs.declared.Refusal.the-variants.{TooLong}
 use Rattle.model.specs.keys.Key.{Key}
 use Rattle.model.specs.records.Record.{reading, keyReading}
 use Rattle.model.specs.tables.Tables.{all}
-use Rattle.model.specs.buckets.Bucket.{Bucket, entrySize, entryRecord, entryOf, entryBytes, encodeBucket, TranslateBucket}
+use Rattle.model.specs.buckets.Bucket.{Bucket, entrySize, entryRecord, entryOf, encodeBucket, TranslateBucket}
 use Rattle.model.specs.calls.Refusals.{Cause, _⇒_, first}
 use Rattle.model.specs.calls.BucketCalls.{shortEntry, renameCauses}
-
--- the bytes of the entry at a place; none past the last
-abbrev pub entryAt : List ℕ → ℕ → List ℕ
-entryAt l i = getD (entryBytes l) i []
 
 -- bytes of an entry whose record reads as a key
 pub record Checked (e : List ℕ) : Type 0 where

@@ -7,10 +7,10 @@ ghost use lib.ListN.{length};
 ghost use Rattle.model.specs.keys.Key.{IsPrefix};
 ghost use Rattle.model.specs.records.Record.{recordSize};
 ghost use Rattle.model.specs.buckets.Bucket.{entryOf};
-ghost use Rattle.buckets.specs.Kept.{entryAt};
+ghost use Rattle.model.specs.inner.Places.{entryAt};
 
 // The entry at a place, as a part of the bucket; an empty part where there are fewer.
-pub(crate) fn entry_at(bucket: &[u8], i: usize) -> &[u8]
+pub fn entry_at(bucket: &[u8], i: usize) -> &[u8]
     ensures { λ r. ⌜ now r ≡ entryAt (now (bucket .entry)) i ⌝ }
 {
     if bucket.len() / ENTRY_SIZE <= i {

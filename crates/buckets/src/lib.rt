@@ -6,5 +6,7 @@ mod translate;
 mod write;
 
 pub use check::check_bucket;
+pub use entry::entry_at;
+pub use translate::too_long;
 pub use translate::translate_bucket;
 pub use translate::translate_bucket_will_fit;

@@ -15,7 +15,7 @@ ghost use Rattle.model.specs.calls.BucketCalls.{bucketLong, bucketFull, transla
 ghost use Rattle.buckets.specs.Kept.{Good};
 
 // Cause 2 of the prefixes.
-fn too_long(prefix: &[u8], new_prefix: &[u8]) -> bool
+pub fn too_long(prefix: &[u8], new_prefix: &[u8]) -> bool
     ensures { λ r. ⌜ r ≡ (tooLong (now (prefix .entry)) || tooLong (now («new_prefix» .entry))) ⌝ }
 {
     if MAX_LEN < prefix.len() {

@@ -1,7 +1,7 @@
 -- Declarations of TranslationLib and TranslationImpl that no call needs, and those that the source asks from a place `idx` on.
 use mathlib.Core.Path.{_≡_}
 use mathlib.Core.Bool.{Bool, true, cond, not, _&&_}
-use mathlib.Core.List.{List, map}
+use mathlib.Core.List.{List}
 use mathlib.Core.Option.{Option}
 use Prim.Native.Nat.{ℕ, zero, suc, _+_, _<_}
 use lib.Dec.{ltb}
@@ -70,7 +70,3 @@ TranslateBucketInternal bucket p q idx =
 -- TranslateBucketSimple(bucket, prefix, newPrefix, i): the first i entries
 abbrev pub TranslateBucketSimple : Bucket → Key → Key → ℕ → Bucket
 TranslateBucketSimple bucket p q i = TranslateBucket (take i bucket) p q
-
--- TranslateBuckets: each bucket, translated
-unfoldable pub TranslateBuckets : List Bucket → Key → Key → List Bucket
-TranslateBuckets blist p q = map (λ (b : Bucket). TranslateBucket b p q) blist

@@ -2,6 +2,7 @@
 // and the value through its last parameter, which a refusal leaves as it was. No public function has a `requires`.
 mod of_buckets;
 mod of_cuts;
+mod of_index;
 mod of_keys;
 mod of_list;
 mod of_pairs;
@@ -17,6 +18,12 @@ pub use of_cuts::jd_join;
 pub use of_cuts::jd_split_left;
 pub use of_cuts::jd_split_right;
 pub use of_cuts::jd_translate_key;
+pub use of_index::jd_build_index;
+pub use of_index::jd_check_index;
+pub use of_index::jd_cut_index_left;
+pub use of_index::jd_cut_index_right;
+pub use of_index::jd_slot_entries;
+pub use of_index::jd_translate_index;
 pub use of_keys::jd_change_prefix;
 pub use of_keys::jd_compare;
 pub use of_keys::jd_entry_key;

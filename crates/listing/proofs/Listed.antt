@@ -11,7 +11,7 @@ use borrow.Rule.Slice.PartMut.{putMid}
 use lib.ListN.{length, take, drop, drop-of-length-le}
 use lib.Seq.{drop-cons}
 use Rattle.model.specs.declared.Refusal.{Refusal}
-use Rattle.model.specs.declared.Refusal.the-variants.{Shape, Malformed, Unsorted, EmptyPrefix, OutOfRange, NoSuchSlot, NotPrefix, TooLong, NotBelow, NoRoom, AlreadyPivot, TooManyPivots, NotMeeting}
+use Rattle.model.specs.declared.Refusal.the-variants.{Shape, Malformed, Unsorted, EmptyPrefix, OutOfRange, NoSuchSlot, NotPrefix, TooLong, NotBelow, NoRoom, AlreadyPivot, TooManyPivots, NotMeeting, EntriesUnsorted, WrongIndex}
 use Rattle.model.specs.declared.Answer.{Answer}
 use Rattle.model.specs.declared.Answer.the-variants as answers
 use Rattle.model.specs.keys.Order.{max}
@@ -43,6 +43,8 @@ number-small NoRoom n e = omega arith
 number-small AlreadyPivot n e = omega arith
 number-small TooManyPivots n e = omega arith
 number-small NotMeeting n e = omega arith
+number-small EntriesUnsorted n e = omega arith
+number-small WrongIndex n e = omega arith
 
 -- its first field
 abbrev refusedField : List ℕ

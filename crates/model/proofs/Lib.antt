@@ -9,3 +9,4 @@ pub mod translation
 pub mod buckets
 pub mod list
 pub mod Rows
+pub mod IndexRows

@@ -1,3 +1,9 @@
 pub mod Entries
 pub mod Bucket
 pub mod Renamed
+pub mod Below
+pub mod IndexBytes
+pub mod Index
+pub mod SlotBuckets
+pub mod IndexCuts
+pub mod IndexTranslation

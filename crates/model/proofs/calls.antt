@@ -17,3 +17,7 @@ pub mod Alike
 pub mod SlotCalls
 pub mod PivotKeys
 pub mod InTurn
+pub mod IndexCauses
+pub mod IndexCalls
+pub mod IndexCuts
+pub mod TranslatedIndex

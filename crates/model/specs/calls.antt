@@ -10,3 +10,4 @@ pub mod PairRecordCalls
 pub mod RenamingCalls
 pub mod ParentChildCalls
 pub mod BucketCalls
+pub mod IndexCalls

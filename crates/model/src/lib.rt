@@ -1,7 +1,7 @@
 // What every crate shares by name: the limits, the refusals, and the answers of the calls.
 // This crate has no function. Its definitions are in specs/, its laws in proofs/.
 
-// The limits of specs/keys/Key, records/Record, buckets/Bucket and tables/Tables, for use in code.
+// The limits of specs/keys/Key, records/Record, buckets/Bucket, buckets/Index and tables/Tables, for use in code.
 pub const MAX_LEN: usize = 64;
 
 pub const RECORD_SIZE: usize = 66;
@@ -9,6 +9,8 @@ pub const RECORD_SIZE: usize = 66;
 pub const ENTRY_SIZE: usize = 70;
 
 pub const MAX_ENTRIES: usize = 512;
+
+pub const PLACE_SIZE: usize = 2;
 
 pub const MIN_PIVOTS: usize = 2;
 
@@ -29,6 +31,8 @@ pub enum Refusal {
     AlreadyPivot,
     TooManyPivots,
     NotMeeting,
+    EntriesUnsorted,
+    WrongIndex,
 }
 
 // What a call answers whose result is a length, a place or a count.

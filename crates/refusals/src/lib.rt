@@ -23,6 +23,8 @@ pub fn refusal_number(r: Refusal) -> u32
         Refusal::AlreadyPivot => 11,
         Refusal::TooManyPivots => 12,
         Refusal::NotMeeting => 13,
+        Refusal::EntriesUnsorted => 14,
+        Refusal::WrongIndex => 15,
     }
 }
 

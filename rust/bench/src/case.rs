@@ -9,7 +9,8 @@ pub struct Case {
     pub call: &'static str,
     /// The bytes of each key.
     pub key: usize,
-    /// The pivots of the table, or the entries kept of the bucket; 0 for a call without either.
+    /// The pivots of the table, the entries kept of the bucket, or those of one with an index; 0
+    /// for a call without any.
     pub size: usize,
     pub library: Timed,
     pub reference: Timed,

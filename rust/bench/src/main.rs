@@ -3,6 +3,7 @@
 mod bucket_calls;
 mod case;
 mod floor;
+mod index_calls;
 mod inputs;
 mod key_calls;
 mod lent;
@@ -32,6 +33,7 @@ fn main() -> ExitCode {
     cases.extend(bucket_calls::cases(&mut random));
     cases.extend(table_calls::insertions(&mut random));
     cases.extend(table_calls::joins(&mut random));
+    cases.extend(index_calls::cases(&mut random));
     for case in &mut cases {
         case.calibrate();
     }

@@ -1,7 +1,7 @@
 //! The printed tables, in Markdown, so that they can stand in a document as they are.
 use crate::case::Case;
 use crate::timing::{ratio, spread};
-use crate::{bucket_calls, key_calls, pair_calls, table_calls};
+use crate::{bucket_calls, index_calls, key_calls, pair_calls, table_calls};
 
 /// Up to here a ratio is printed as 1.00 or less.
 const EVEN: f64 = 1.005;
@@ -48,22 +48,30 @@ fn keys(cases: &[Case]) {
     }
 }
 
+/// The calls on tables, by their pivots.
 fn tables(cases: &[Case], calls: &[&str], pivots: [usize; 3]) {
-    let [few, some, many] = pivots.map(|count| count.to_string());
+    growing(cases, calls, &table_calls::KEYS, (pivots, "pivots"));
+}
+
+/// Both ratios of each call at three sizes, and how the library's time grows from the first to the
+/// last.
+fn growing(cases: &[Case], calls: &[&str], keys: &[usize], sizes: ([usize; 3], &str)) {
+    let (counts, unit) = sizes;
+    let [few, some, many] = counts.map(|count| count.to_string());
     header(&[
         "call",
         "key bytes",
-        &format!("lib/ref, {few} pivots"),
+        &format!("lib/ref, {few} {unit}"),
         &some,
         &many,
-        &format!("lib/floor, {few} pivots"),
+        &format!("lib/floor, {few} {unit}"),
         &some,
         &many,
         &format!("growth from {few} to {many}"),
     ]);
     for call in calls {
-        for key in table_calls::KEYS {
-            let sizes = pivots.map(|pivots| find(cases, call, key, pivots));
+        for &key in keys {
+            let sizes = counts.map(|count| find(cases, call, key, count));
             let growth = ratio(&sizes[2].library, &sizes[0].library);
             row(call, key, both(sizes).chain([growth]));
         }
@@ -129,6 +137,9 @@ pub fn print(cases: &[Case], rounds: usize) {
     checks(cases);
     println!();
     buckets(cases);
+    println!();
+    let entries = (index_calls::ENTRIES, "entries");
+    growing(cases, &index_calls::CALLS, &bucket_calls::KEYS, entries);
     println!();
     let slower = cases
         .iter()

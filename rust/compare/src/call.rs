@@ -18,6 +18,8 @@ pub enum Kind {
     Edges,
     Pair,
     Bucket,
+    /// The index beside a bucket.
+    Index,
     /// The count of the pivots, the pivots and the edges.
     Input,
 }
@@ -29,8 +31,8 @@ pub struct Call {
     pub takes_place: bool,
     /// The destinations, none to two, after the slices.
     pub dests: &'static [&'static str],
-    /// How many bytes it writes to each where this is its answer.
-    pub written: fn(u64) -> [usize; MOST_DESTS],
+    /// How many bytes it writes to each where this is its answer to what was asked.
+    pub written: fn(&Asked, u64) -> [usize; MOST_DESTS],
     pub archive: fn(&Asked, &mut Lent) -> u32,
     /// As C does it: the status returned, the destinations and the number changed in place.
     pub reference: fn(&Asked, Dests, &mut u64) -> u32,
@@ -48,22 +50,22 @@ pub const fn call(
         arguments,
         takes_place: false,
         dests: &[],
-        written: |_| [0; MOST_DESTS],
+        written: |_, _| [0; MOST_DESTS],
         archive,
         reference,
     }
 }
 
 /// What stands in one destination where the answer counts bytes, records or entries.
-pub fn bytes(count: u64) -> [usize; MOST_DESTS] {
+pub fn bytes(_: &Asked, count: u64) -> [usize; MOST_DESTS] {
     [count as usize, 0]
 }
 
-pub fn records(count: u64) -> [usize; MOST_DESTS] {
+pub fn records(_: &Asked, count: u64) -> [usize; MOST_DESTS] {
     [66 * count as usize, 0]
 }
 
-pub fn entries(count: u64) -> [usize; MOST_DESTS] {
+pub fn entries(_: &Asked, count: u64) -> [usize; MOST_DESTS] {
     [ENTRY_SIZE * count as usize, 0]
 }
 

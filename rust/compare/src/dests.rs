@@ -6,12 +6,14 @@ use crate::group::Group;
 /// Exactly enough, a byte short on either side and on both, room to spare, and none. Where the
 /// call is refused, around what it is lent.
 pub fn dests_around(call: &Call, slices: &[&[u8]]) -> Vec<[usize; MOST_DESTS]> {
-    let (mut pivots, mut edges) = ([0; 64 * 66], [0; 64 * 66]);
-    let asked = Asked::with_dests(slices, [pivots.len(), edges.len()]);
+    // No call writes more than it is lent and two records.
+    let room = slices.iter().map(|slice| slice.len()).sum::<usize>() + 2 * 66;
+    let (mut first, mut second) = (vec![0; room], vec![0; room]);
+    let asked = Asked::with_dests(slices, [room; MOST_DESTS]);
     let mut number = 0;
-    let status = (call.reference)(&asked, [&mut pivots, &mut edges], &mut number);
+    let status = (call.reference)(&asked, [&mut first, &mut second], &mut number);
     let [first, second] = match (call.dests.len(), status) {
-        (_, 0) => (call.written)(number),
+        (_, 0) => (call.written)(&asked, number),
         (2, _) => [slices[0].len(), slices[1].len()],
         _ => [slices[slices.len() - 1].len(), 0],
     };

@@ -5,6 +5,7 @@ use crate::asked::{Asked, MOST_DESTS};
 use crate::bucket_inputs::usual_buckets;
 use crate::call::{Call, Kind};
 use crate::group::Group;
+use crate::index::inputs::usual_indexes;
 use crate::inputs::{counted, entry, field_record, record, MAX, NO_EDGE};
 use crate::list_inputs::usual_inputs;
 use crate::pair_inputs::{pair, usual_pairs};
@@ -33,6 +34,7 @@ pub fn usual(kind: Kind) -> Vec<Vec<u8>> {
         Kind::Edges => usual_edges(),
         Kind::Pair => usual_pairs(),
         Kind::Bucket => usual_buckets(),
+        Kind::Index => usual_indexes(),
         Kind::Input => usual_inputs(),
     }
 }
@@ -98,15 +100,25 @@ pub fn every_length(group: &mut Group, call: &Call) {
         (_, 4) => &[[0, 0], [400, 300]],
         _ => &[[0, 0], [131, 66], [132, 65], [300, 300]],
     };
+    every_length_beside(group, call, &usual, dests);
+    if call.dests.len() == 1 {
+        let every: Vec<_> = (0..=LONGEST).map(|dest| [dest, 0]).collect();
+        choices(group, call, &usual, &every);
+    }
+}
+
+/// Every length in each argument, beside these slices in the others.
+pub fn every_length_beside(
+    group: &mut Group,
+    call: &Call,
+    others: &[Vec<Vec<u8>>],
+    dests: &[[usize; MOST_DESTS]],
+) {
     for (argument, (_, kind)) in call.arguments.iter().enumerate() {
-        let mut slices = usual.clone();
+        let mut slices = others.to_vec();
         for len in 0..=LONGEST {
             slices[argument] = contents(*kind, len);
             choices(group, call, &slices, dests);
         }
-    }
-    if call.dests.len() == 1 {
-        let every: Vec<_> = (0..=LONGEST).map(|dest| [dest, 0]).collect();
-        choices(group, call, &usual, &every);
     }
 }

@@ -6,7 +6,7 @@ use std::sync::OnceLock;
 const GUARD: usize = 16;
 /// Around an argument: a scan that runs on past its end would take FF for more of a run.
 const ARGUMENT_GUARD: u8 = 0xFF;
-const MOST_SLICES: usize = 4;
+const MOST_SLICES: usize = 5;
 
 #[derive(Default)]
 struct Guarded {

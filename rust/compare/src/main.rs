@@ -9,6 +9,7 @@ mod changes;
 mod cuts;
 mod dests;
 mod group;
+mod index;
 mod inputs;
 mod insertion;
 mod joining;
@@ -104,6 +105,7 @@ fn main() -> ExitCode {
         renaming::tests(),
         parent_child::tests(),
         buckets::tests(),
+        index::tests(),
         list::tests(),
     ];
     for test in tests.into_iter().flatten() {

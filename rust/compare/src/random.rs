@@ -5,6 +5,7 @@ use crate::bucket_inputs::random_bucket;
 use crate::call::{Call, Kind};
 use crate::dests::around;
 use crate::group::Group;
+use crate::index::inputs::random_index;
 use crate::inputs::{
     entry, field_record, near, random_bytes, record, Xorshift, BYTES, MAX, NO_EDGE,
 };
@@ -55,6 +56,7 @@ fn slice(random: &mut Xorshift, kind: Kind, base: &[u8]) -> Vec<u8> {
         Kind::Pivots | Kind::Child | Kind::Second => random_pivots(random, base),
         Kind::Pair => random_pair(random, base),
         Kind::Bucket => random_bucket(random, base),
+        Kind::Index => random_index(random),
         Kind::Edges => random_edges(random, base),
         Kind::Input => joined(&random_pivots(random, base), &random_edges(random, base)),
     }

@@ -173,9 +173,9 @@ fn clause_status() {
 fn refusal_out_of_range() {
     for status in [
         "refusal 0",
-        "refusal 14",
+        "refusal 16",
         "refusal 3-3",
-        "refusal 1-14",
+        "refusal 1-16",
         "refusal",
     ] {
         row(

@@ -9,7 +9,7 @@ pub const NUMBERS: &str = "crates/model/specs/calls/Refusals.antt";
 pub type Numbers = (usize, usize);
 
 /// The numbers that there are.
-const ALL: RangeInclusive<usize> = 1..=13;
+const ALL: RangeInclusive<usize> = 1..=15;
 
 /// `refusal N` or `refusal N-M`.
 pub fn read(status: &str) -> Option<Numbers> {
@@ -48,11 +48,11 @@ mod tests {
     use super::read;
 
     #[test]
-    fn each_of_the_thirteen_and_ranges_are_read() {
-        for n in 1..=13 {
+    fn each_of_the_fifteen_and_ranges_are_read() {
+        for n in 1..=15 {
             assert_eq!(read(&format!("refusal {n}")), Some((n, n)));
         }
         assert_eq!(read("refusal 1-4"), Some((1, 4)));
-        assert_eq!(read("refusal 1-13"), Some((1, 13)));
+        assert_eq!(read("refusal 1-15"), Some((1, 15)));
     }
 }

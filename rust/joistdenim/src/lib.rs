@@ -16,6 +16,7 @@
 
 mod buckets;
 mod cuts;
+mod index;
 mod keys;
 mod lend;
 mod list;
@@ -28,6 +29,9 @@ mod tables;
 
 pub use buckets::{translate_bucket, translate_bucket_will_fit};
 pub use cuts::{insert_pivot, join, split_left, split_right, translate_key};
+pub use index::{
+    build_index, check_index, cut_index_left, cut_index_right, slot_entries, translate_index,
+};
 pub use keys::{change_prefix, compare, entry_key, pivot_key, pivot_lcp, shortest_uncommon_prefix};
 pub use list::list_table;
 pub use pair::Pair;
@@ -52,5 +56,7 @@ pub const MAX_PIVOTS: usize = 64;
 pub const ENTRY_SIZE: usize = RECORD_SIZE + 4;
 /// The most entries of a bucket.
 pub const MAX_ENTRIES: usize = 512;
+/// The bytes of a place in an index.
+pub const PLACE_SIZE: usize = 2;
 /// The bytes of a pair: a flag, two lengths of two bytes, and two prefixes in 64 bytes each.
 pub const PAIR_SIZE: usize = 5 + 2 * MAX_LEN;

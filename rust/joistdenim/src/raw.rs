@@ -5,12 +5,14 @@
 
 mod buckets;
 mod cuts;
+mod index;
 mod list;
 mod pairs;
 mod renaming;
 mod tables;
 pub use buckets::*;
 pub use cuts::*;
+pub use index::*;
 pub use list::*;
 pub use pairs::*;
 pub use renaming::*;

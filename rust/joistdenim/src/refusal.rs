@@ -18,6 +18,8 @@ pub enum Refusal {
     AlreadyPivot = 11,
     TooManyPivots = 12,
     NotMeeting = 13,
+    EntriesUnsorted = 14,
+    WrongIndex = 15,
 }
 
 impl Refusal {
@@ -42,6 +44,8 @@ impl Refusal {
             11 => Refusal::AlreadyPivot,
             12 => Refusal::TooManyPivots,
             13 => Refusal::NotMeeting,
+            14 => Refusal::EntriesUnsorted,
+            15 => Refusal::WrongIndex,
             other => unreachable!("the archive has no refusal {other}"),
         })
     }
@@ -54,7 +58,7 @@ impl Refusal {
             }
             Refusal::Unsorted => "pivots don't rise strictly",
             Refusal::EmptyPrefix => "an edge where the range's prefix is empty",
-            Refusal::OutOfRange => "the key is outside the table's range",
+            Refusal::OutOfRange => "a key is outside the table's range",
             Refusal::NoSuchSlot => "no such slot, or no key at that place",
             Refusal::NotPrefix => "an old prefix doesn't begin what it must",
             Refusal::TooLong => "a produced key or prefix passes 64 bytes",
@@ -65,6 +69,8 @@ impl Refusal {
             Refusal::NotMeeting => {
                 "the tables don't meet: one's last pivot isn't the other's first"
             }
+            Refusal::EntriesUnsorted => "the keys of a bucket don't rise strictly",
+            Refusal::WrongIndex => "an index isn't the one that belongs to table and bucket",
         }
     }
 }
@@ -84,7 +90,7 @@ mod tests {
     #[test]
     fn each_number_is_its_refusal() {
         assert_eq!(Refusal::check(0), Ok(()));
-        for number in 1..=13 {
+        for number in 1..=15 {
             assert_eq!(Refusal::check(number).unwrap_err().number(), number);
         }
     }

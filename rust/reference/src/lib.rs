@@ -4,7 +4,7 @@
 //!
 //! A call reads its bytes into `Element`, `Edge` and `Entry` values first, and a `?` for each
 //! cause stands in the call's order of causes: cause 1 of every argument, then cause 2 of every
-//! argument, and so on. The order is 1, 2, 3, 4, 13, 5, 11, 12, 6, 7, 8, 9, 10.
+//! argument, and so on. The order is 1, 2, 3, 4, 13, 14, 5, 11, 12, 15, 6, 7, 8, 9, 10.
 #![forbid(unsafe_code)]
 
 #[cfg(test)]
@@ -15,6 +15,9 @@ mod cut_tests;
 mod cuts;
 mod entry;
 mod image;
+mod index;
+#[cfg(test)]
+mod index_tests;
 #[cfg(test)]
 mod insert_tests;
 mod join;
@@ -49,6 +52,10 @@ mod upper_bound;
 pub use buckets::{translate_bucket, translate_bucket_will_fit, MAX_ENTRIES};
 pub use cuts::{insert_pivot, split_left, split_right};
 pub use entry::ENTRY_SIZE;
+pub use index::{
+    build_index, check_index, cut_index_left, cut_index_right, slot_entries, translate_index,
+    PLACE_SIZE,
+};
 pub use join::join;
 pub use keys::{change_prefix, compare, entry_key, pivot_key};
 pub use list::list_table;

@@ -1,5 +1,5 @@
-//! The thirteen refusals. Each call has an order of its causes, in which 13 comes after 4, and 11
-//! and 12 come after 5.
+//! The fifteen refusals. Each call has an order of its causes, in which 13 and 14 come after 4, and
+//! 11, 12 and 15 after 5.
 
 #[derive(Clone, Copy, Debug, PartialEq, Eq)]
 pub enum Refusal {
@@ -16,6 +16,8 @@ pub enum Refusal {
     AlreadyPivot = 11,
     TooManyPivots = 12,
     NotMeeting = 13,
+    EntriesUnsorted = 14,
+    WrongIndex = 15,
 }
 
 impl Refusal {

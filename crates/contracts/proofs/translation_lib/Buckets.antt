@@ -9,12 +9,12 @@ use lib.ListN.{length, drop, getD, length-map, drop-of-length-le}
 use lib.Seq.{drop-cons}
 use Rattle.model.specs.keys.Key.{Key, IsPrefix, changePrefix}
 use Rattle.model.specs.keys.Order.{Element}
-use Rattle.model.specs.buckets.Bucket.{Entry, Bucket, TranslateBucket, entriesRise, keptFrom, WFTBucket}
+use Rattle.model.specs.buckets.Bucket.{Entry, Bucket, TranslateBucket, TranslateBuckets, entriesRise, keptFrom, WFTBucket}
 use Rattle.model.proofs.Lists.{getD-map}
 use Rattle.model.proofs.tables.Places.{sorted-tail}
 use Rattle.model.proofs.buckets.Bucket.{translated-wft}
 use Rattle.model.proofs.buckets.Renamed.{renamed-rises}
-use Rattle.contracts.specs.Translation.{TranslateBucketInternal, TranslateBuckets}
+use Rattle.contracts.specs.Translation.{TranslateBucketInternal}
 use Rattle.contracts.proofs.translation_lib.Shared.{from-place}
 
 -- ---- from a place on

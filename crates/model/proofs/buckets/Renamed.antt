@@ -12,20 +12,20 @@ use Rattle.model.specs.keys.Key.{Key, IsPrefix, changePrefix}
 use Rattle.model.specs.keys.Order.{Element, max, lt}
 use Rattle.model.specs.tables.Tables.{pivotAt}
 use Rattle.model.specs.buckets.Bucket.{Entry, Bucket, translateEntry, TranslateBucket, entriesRise, keptFrom, keptPlaces, WFTBucket}
+use Rattle.model.specs.buckets.Index.{only}
 use Rattle.model.proofs.Lists.{getD-map, le-or-lt}
 use Rattle.model.proofs.keys.ChangePrefix.{change-begins, change-undone, change-lt}
 use Rattle.model.proofs.tables.Places.{sorted-at, sorted-of}
 use Rattle.model.proofs.buckets.Bucket.{translated-wft}
 
 -- the entries whose key begins with the prefix, as they stand
-unfoldable pub kept : Bucket → Key → Bucket
-kept [] p = []
-kept (e ∷ b) p = cond (IsPrefix p (e .key)) (e ∷ kept b p) (kept b p)
+abbrev pub kept : Bucket → Key → Bucket
+kept b p = only (λ (e : Entry). IsPrefix p (e .key)) b
 
 module _ (p q : Key) where
   -- the renamed bucket is these, each translated
   pub renamed-kept : (b : Bucket) → TranslateBucket b p q ≡ map (translateEntry p q) (kept b p)
-  unfolding TranslateBucket kept
+  unfolding TranslateBucket only
   renamed-kept [] = refl
   renamed-kept (e ∷ b) = go (IsPrefix p (e .key)) (renamed-kept b)
     where
@@ -40,7 +40,7 @@ module _ (p q : Key) where
 
   -- renaming back gives the kept entries, whole
   pub renamed-back : (b : Bucket) → TranslateBucket (TranslateBucket b p q) q p ≡ kept b p
-  unfolding TranslateBucket kept
+  unfolding TranslateBucket only
   renamed-back [] = refl
   renamed-back (e ∷ b) = go (IsPrefix p (e .key)) refl (renamed-back b)
     where

@@ -3,7 +3,7 @@ use mathlib.Core.Path.{_≡_, refl}
 use mathlib.Core.Bool.{Bool, true}
 use mathlib.Core.List.{List}
 use Prim.Native.Nat.{ℕ, _+_}
-use Rattle.model.specs.declared.Refusal.the-variants.{EmptyPrefix, NotMeeting, OutOfRange, AlreadyPivot, TooManyPivots, NoSuchSlot, NotPrefix, TooLong, NotBelow, NoRoom}
+use Rattle.model.specs.declared.Refusal.the-variants.{EmptyPrefix, NotMeeting, EntriesUnsorted, OutOfRange, AlreadyPivot, TooManyPivots, WrongIndex, NoSuchSlot, NotPrefix, TooLong, NotBelow, NoRoom}
 use Rattle.model.specs.calls.Refusals.{turn, paired, inTurn}
 use Rattle.model.specs.calls.KeyCalls.{compareCauses, pivotKeyCauses, entryKeyCauses, changePrefixCauses, pivotLcpCauses, uncommonPrefixCauses}
 use Rattle.model.specs.calls.TableCalls.{pivotCauses, tableCauses, containsRangeCauses, getKeyCauses, initPivotTableCauses, slotCauses}
@@ -15,12 +15,13 @@ use Rattle.model.specs.calls.PairRecordCalls.{reversePairCauses, applyPa
 use Rattle.model.specs.calls.RenamingCalls.{pivotPairCauses, pivotsCauses, edgesCauses}
 use Rattle.model.specs.calls.ParentChildCalls.{parentChildCauses}
 use Rattle.model.specs.calls.BucketCalls.{bucketCauses, translateBucketCauses}
+use Rattle.model.specs.calls.IndexCalls.{entriesCauses, givenCauses, buildIndexCauses, slotEntriesCauses, cutIndexCauses, translateIndexCauses}
 use Rattle.model.specs.list.ShelfList.{listCauses, listTableCauses}
 
--- "after 4", "directly after 5", "directly after 11", and the others as they were
-pub directly-after : (turn EmptyPrefix + 1 ≡ turn NotMeeting) × (turn NotMeeting + 1 ≡ turn OutOfRange) × (turn OutOfRange + 1 ≡ turn AlreadyPivot) × (turn AlreadyPivot + 1 ≡ turn TooManyPivots) × (turn TooManyPivots + 1 ≡ turn NoSuchSlot)
-    × (turn NoSuchSlot + 1 ≡ turn NotPrefix) × (turn NotPrefix + 1 ≡ turn TooLong) × (turn TooLong + 1 ≡ turn NotBelow) × (turn NotBelow + 1 ≡ turn NoRoom)
-directly-after = (refl, refl, refl, refl, refl, refl, refl, refl, refl)
+-- "after 4", "directly after 5", "directly after 11", "after 5", and the others as they were
+pub directly-after : (turn EmptyPrefix + 1 ≡ turn NotMeeting) × (turn NotMeeting + 1 ≡ turn EntriesUnsorted) × (turn EntriesUnsorted + 1 ≡ turn OutOfRange) × (turn OutOfRange + 1 ≡ turn AlreadyPivot) × (turn AlreadyPivot + 1 ≡ turn TooManyPivots) × (turn TooManyPivots + 1 ≡ turn WrongIndex)
+    × (turn WrongIndex + 1 ≡ turn NoSuchSlot) × (turn NoSuchSlot + 1 ≡ turn NotPrefix) × (turn NotPrefix + 1 ≡ turn TooLong) × (turn TooLong + 1 ≡ turn NotBelow) × (turn NotBelow + 1 ≡ turn NoRoom)
+directly-after = (refl, refl, refl, refl, refl, refl, refl, refl, refl, refl, refl)
 
 module _ (a b c d e : List ℕ) where
   -- keys and records
@@ -56,3 +57,9 @@ module _ (a b c d e : List ℕ) where
       × (inTurn 0 (listTableCauses a b) ≡ true)
   unfolding pivotCauses tableCauses bucketCauses listCauses
   others-in-turn i = (refl, refl, refl, refl, refl, refl, refl)
+
+  -- a bucket with its index; the check lists no more than the given index has
+  pub index-in-turn : (left t u : Bool) (i : ℕ) (f g : List ℕ) → (inTurn 0 (buildIndexCauses a b c) ≡ true) × (inTurn 0 (givenCauses t u a b c) ≡ true) × (inTurn 0 (slotEntriesCauses a b c i) ≡ true)
+      × (inTurn 0 (cutIndexCauses left a b c d e f) ≡ true) × (inTurn 0 (translateIndexCauses a b c d e f g) ≡ true)
+  unfolding paired pivotCauses bucketCauses entriesCauses givenCauses
+  index-in-turn left t u i f g = (refl, refl, refl, refl, refl)

@@ -31,7 +31,7 @@ use Rattle.model.proofs.tables.Routing.{wf-count, wf-all-short}
 use Rattle.model.proofs.translation.Renaming.{pivots-count, pivots-wf, edges-short}
 
 -- what a call that no cause stops wrote is read back from the head of its destination
-wrote : (cs : List Cause) (w d : List ℕ) (n : ℕ) → first cs ≡ none → length w ≡ n → take n (leaves cs w d) ≡ w
+pub wrote : (cs : List Cause) (w d : List ℕ) (n : ℕ) → first cs ≡ none → length w ≡ n → take n (leaves cs w d) ≡ w
 wrote cs w d n h e =
     let f : leaves cs w d ≡ over w d = sym (passed (λ (_ : Refusal). d) (over w d) (over w d) cs h refl) in
     rw (f, ← e) (take-over w d)

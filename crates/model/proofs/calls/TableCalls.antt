@@ -90,7 +90,7 @@ pivot-reading (r ∷ rs) reads.NoEdge h = h
 pivot-reading (r ∷ rs) reads.Max h = refl
 
 -- records that are read as pivots are each read as an element
-read-elements : (rs : List (List ℕ)) → pivotsRead rs ≡ true → all (λ (r : List ℕ). elementReading (reading r)) rs ≡ true
+pub read-elements : (rs : List (List ℕ)) → pivotsRead rs ≡ true → all (λ (r : List ℕ). elementReading (reading r)) rs ≡ true
 unfolding pivotsRead all
 read-elements [] h = refl
 read-elements (r ∷ rs) h =

@@ -65,6 +65,10 @@ TranslateBucket [] p q = []
 TranslateBucket (e ∷ b) p q =
     cond (IsPrefix p (e .key)) (translateEntry p q e ∷ TranslateBucket b p q) (TranslateBucket b p q)
 
+-- TranslateBuckets: each bucket, translated
+unfoldable pub TranslateBuckets : List Bucket → Key → Key → List Bucket
+TranslateBuckets blist p q = map (λ (b : Bucket). TranslateBucket b p q) blist
+
 -- WFBucket's order: "Strictly rising entries"
 unfoldable pub entriesRise : Bucket → Bool
 entriesRise b = IsStrictlySorted (map (λ (e : Entry). Element.key (e .key)) b)

@@ -7,7 +7,7 @@ use lib.Dec.{leb}
 use lib.IntN.{ℤ}
 use lib.ListN.{length, drop}
 use Rattle.model.specs.declared.Refusal.{Refusal}
-use Rattle.model.specs.declared.Refusal.the-variants.{Shape, Malformed, Unsorted, EmptyPrefix, OutOfRange, NoSuchSlot, NotPrefix, TooLong, NotBelow, NoRoom, AlreadyPivot, TooManyPivots, NotMeeting}
+use Rattle.model.specs.declared.Refusal.the-variants.{Shape, Malformed, Unsorted, EmptyPrefix, OutOfRange, NoSuchSlot, NotPrefix, TooLong, NotBelow, NoRoom, AlreadyPivot, TooManyPivots, NotMeeting, EntriesUnsorted, WrongIndex}
 use Rattle.model.specs.declared.Answer.{Answer}
 use Rattle.model.specs.declared.Answer.the-variants as answers
 use Rattle.model.specs.declared.Compared.{Compared}
@@ -18,7 +18,7 @@ use Rattle.model.specs.declared.Routed.{Routed}
 use Rattle.model.specs.declared.Routed.the-variants as routed
 
 infix 5 _⇒_
--- the numbers of the table "Refusals", and 11 to 13: "the key is already a pivot", "the table would pass 64 pivots", "the meeting pivots differ or are max"
+-- the numbers of the table "Refusals", and 11 to 15: "the key is already a pivot", "the table would pass 64 pivots", "the meeting pivots differ or are max", "entries don't rise strictly", "a given index isn't the one that belongs to table and bucket"
 abbrev pub number : Refusal → ℕ
 number Shape = 1
 number Malformed = 2
@@ -33,22 +33,26 @@ number NoRoom = 10
 number AlreadyPivot = 11
 number TooManyPivots = 12
 number NotMeeting = 13
+number EntriesUnsorted = 14
+number WrongIndex = 15
 
--- the order of all causes: "directly after 5" comes 11, "directly after 11" comes 12, and "after 4" 13
+-- the order of all causes: "directly after 5" comes 11, "directly after 11" comes 12, "after 4" 13 and 14, "after 5" 15
 abbrev pub turn : Refusal → ℕ
 turn Shape = 1
 turn Malformed = 2
 turn Unsorted = 3
 turn EmptyPrefix = 4
 turn NotMeeting = 5
-turn OutOfRange = 6
-turn AlreadyPivot = 7
-turn TooManyPivots = 8
-turn NoSuchSlot = 9
-turn NotPrefix = 10
-turn TooLong = 11
-turn NotBelow = 12
-turn NoRoom = 13
+turn EntriesUnsorted = 6
+turn OutOfRange = 7
+turn AlreadyPivot = 8
+turn TooManyPivots = 9
+turn WrongIndex = 10
+turn NoSuchSlot = 11
+turn NotPrefix = 12
+turn TooLong = 13
+turn NotBelow = 14
+turn NoRoom = 15
 
 -- a cause: whether it applies, and what is answered then
 pub data Cause : Type 0 where

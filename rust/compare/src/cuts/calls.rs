@@ -1,5 +1,6 @@
 //! The cuts, a new pivot, the translation of a key and the pair of a key's slot, in the archive and
 //! in the reference.
+use crate::asked::Asked;
 use crate::call::{bytes, call, Call};
 use crate::lent::lend;
 use crate::pair_inputs::PAIR_SIZE;
@@ -18,7 +19,7 @@ pub static CALLS: [&Call; 5] = [
 pub const DESTS: &[&str] = &["dest_pivots", "dest_edges"];
 
 /// The bytes of so many pivots, and of one edge fewer.
-pub fn written(pivots: u64) -> [usize; 2] {
+pub fn written(_: &Asked, pivots: u64) -> [usize; 2] {
     [pivots, pivots - 1].map(|count| 66 * count as usize)
 }
 
@@ -83,7 +84,7 @@ pub static TRANSLATE_KEY: Call = Call {
 
 pub static TRANSLATE: Call = Call {
     dests: &["dest_pair"],
-    written: |_| [PAIR_SIZE, 0],
+    written: |_, _| [PAIR_SIZE, 0],
     ..call(
         "translate",
         &[PIVOTS, EDGES, KEY],

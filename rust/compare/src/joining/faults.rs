@@ -5,29 +5,10 @@ use crate::cuts::records::Records;
 use crate::cuts::small::{tables as small_tables, SHARED};
 use crate::dests::around;
 use crate::group::Group;
-use crate::inputs::{field_record, record, MAX, NO_EDGE};
+use crate::inputs::{field_record, record, MAX};
 use crate::lengths::choices;
 use crate::table_inputs::{absent, edges_of_t, pivots_of_t, rising, table, with};
-use crate::tables::faults::{each_count, each_edge_of_63, each_fault};
-
-/// The pivots as they are, and with a fault: of another length, malformed, a wrong mark, not
-/// rising; and with another end, which may take the prefix away from a slot.
-fn pivots_with_faults(good: &[u8]) -> Vec<Vec<u8>> {
-    let last = good.len() / 66 - 1;
-    let changed = |place, record: [u8; 66]| with(good, place, &record);
-    vec![
-        good.to_vec(),
-        good[..good.len() - 1].to_vec(),
-        [good, &good[..66]].concat(),
-        changed(0, field_record(65)),
-        changed(0, field_record(MAX)),
-        changed(last, field_record(NO_EDGE)),
-        changed(last, field_record(MAX)),
-        with(good, 1, &good[..66]),
-        changed(last, record(&[])),
-        changed(0, record(&[])),
-    ]
-}
+use crate::tables::faults::{each_count, each_edge_of_63, each_fault, pivots_with_faults};
 
 /// The edges as they are, none, and with a fault.
 fn edges_with_faults(good: &[u8]) -> Vec<Vec<u8>> {

@@ -10,7 +10,7 @@ pub static CALLS: [&Call; 3] = [&REVERSE_PAIR, &APPLY_PAIR, &COMPOSE_PAIRS];
 
 pub static REVERSE_PAIR: Call = Call {
     dests: &["dest_pair"],
-    written: |_| [PAIR_SIZE, 0],
+    written: |_, _| [PAIR_SIZE, 0],
     ..call(
         "reverse_pair",
         &[("pair", Kind::Pair)],
@@ -35,7 +35,7 @@ pub static APPLY_PAIR: Call = Call {
 
 pub static COMPOSE_PAIRS: Call = Call {
     dests: &["dest_pair"],
-    written: |_| [PAIR_SIZE, 0],
+    written: |_, _| [PAIR_SIZE, 0],
     ..call(
         "compose_pairs",
         &[("pair_a", Kind::Pair), ("pair_b", Kind::Pair)],

@@ -7,6 +7,25 @@ use crate::inputs::{byte_after, field_record, record, MAX, NO_EDGE};
 use crate::lengths::{choices, usual};
 use crate::table_inputs::{absent, rising, table, with};
 
+/// The pivots as they are, and with a fault: of another length, malformed, a wrong mark, not
+/// rising; and with another end, which may take the prefix away from a slot.
+pub fn pivots_with_faults(good: &[u8]) -> Vec<Vec<u8>> {
+    let last = good.len() / 66 - 1;
+    let changed = |place, record: [u8; 66]| with(good, place, &record);
+    vec![
+        good.to_vec(),
+        good[..good.len() - 1].to_vec(),
+        [good, &good[..66]].concat(),
+        changed(0, field_record(65)),
+        changed(0, field_record(MAX)),
+        changed(last, field_record(NO_EDGE)),
+        changed(last, field_record(MAX)),
+        with(good, 1, &good[..66]),
+        changed(last, record(&[])),
+        changed(0, record(&[])),
+    ]
+}
+
 /// These pivots with good and bad slices for the other arguments: keys inside and outside, and
 /// edges of each count near the right one.
 fn with_pivots(group: &mut Group, call: &Call, pivots: Vec<u8>) {

@@ -1,0 +1,4 @@
+pub mod Places
+pub mod Room
+pub mod Refused
+pub mod Sides

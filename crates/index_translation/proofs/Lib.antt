@@ -1,0 +1,3 @@
+pub mod Counting
+pub mod Placing
+pub mod Causes

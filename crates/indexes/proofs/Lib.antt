@@ -1,0 +1,6 @@
+pub mod Entries
+pub mod Rise
+pub mod Places
+pub mod Checks
+pub mod Merging
+pub mod Slots

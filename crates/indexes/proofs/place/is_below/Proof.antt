@@ -1,0 +1,19 @@
+-- `indexes::is_below` meets its contract.
+use Rattle.indexes.proofs.Entries.{padded-here, below-told}
+use borrow.Author.Needs.{needs}
+use Rattle.indexes.proofs.place.is_below.Statement.{statement}
+use Rattle.indexes.proofs.place.is_below.Tie as tie
+
+ruleset rules = (needs, padded-here, below-told)
+
+record-at-requires : tie.Need-record-at-requires
+record-at-requires c κs = search rules
+
+compare-padded-requires : tie.Need-compare-padded-requires
+compare-padded-requires c κs = (padded-here _ (search needs) _ (search needs) _ (c .record-at .ensures), search needs)
+
+returns : tie.Need-returns
+returns c = search rules
+
+pub is-below-spec : {M : Type 1} → statement M
+is-below-spec = tie.close (tie.spec record-at-requires compare-padded-requires returns)

@@ -1,0 +1,101 @@
+// The check of pivots and a bucket, and of the index given with them.
+use crate::entry::entries_outside;
+use crate::entry::entries_rise;
+use crate::merge::write_index;
+use crate::place::place_from;
+use model::Answer;
+use model::ENTRY_SIZE;
+use model::MAX_LEN;
+use model::PLACE_SIZE;
+use model::RECORD_SIZE;
+use model::Refusal;
+ghost use mathlib.Core.Path.{_≡_};
+ghost use mathlib.Core.Bool.{false, not};
+ghost use Prim.Native.Nat.{_/_};
+ghost use lib.ListN.{length};
+ghost use Rattle.model.specs.keys.Key.{tooLong};
+ghost use Rattle.model.specs.keys.Order.{key};
+ghost use Rattle.model.specs.records.Record.{recordSize};
+ghost use Rattle.model.specs.buckets.Bucket.{entries};
+ghost use Rattle.model.specs.buckets.Index.{entriesBelow};
+ghost use Rattle.model.specs.calls.Refusals.{paired, answer};
+ghost use Rattle.model.specs.calls.TableCalls.{pivotCauses};
+ghost use Rattle.model.specs.calls.BucketCalls.{bucketCauses};
+ghost use Rattle.model.specs.calls.IndexCalls.{entriesCauses, wrongIndex, givenCauses, checkIndexAnswer};
+ghost use Rattle.indexes.specs.Checked.{Checked};
+
+// Causes 1, 2 and 3 of pivots and bucket, by number over both; else the count of pivots.
+fn check_both(pivots: &[u8], bucket: &[u8], wrong: bool) -> Answer
+    ensures { λ r. ⌜ r ≡ answer (paired (pivotCauses false wrong (now (pivots .entry))) (bucketCauses false (now (bucket .entry)))) (length (now (pivots .entry)) / recordSize) ⌝ }
+{
+    let first = table_checks::check_pivots(pivots, false, wrong);
+    let second = buckets::check_bucket(bucket, false);
+    refusals::earlier(first, second)
+}
+
+// Causes 1, 2, 3, 14 and 5; else the count of entries. The caller says whether another argument has cause 2, or 5.
+pub(crate) fn check_entries(pivots: &[u8], bucket: &[u8], wrong: bool, outside: bool) -> Answer
+    ensures { λ r. ⌜ r ≡ answer (entriesCauses wrong outside (now (pivots .entry)) (now (bucket .entry))) (length (entries (now (bucket .entry)))) ⌝ }
+{
+    let checked = check_both(pivots, bucket, wrong);
+    let Answer::Value(_) = checked else {
+        return checked;
+    };
+    if !entries_rise(bucket) {
+        return Answer::Refused(Refusal::EntriesUnsorted);
+    }
+    if outside {
+        return Answer::Refused(Refusal::OutOfRange);
+    }
+    if entries_outside(pivots, bucket) {
+        return Answer::Refused(Refusal::OutOfRange);
+    }
+    Answer::Value(bucket.len() / ENTRY_SIZE)
+}
+
+// Whether an index is the one that belongs to checked pivots and bucket.
+fn is_index(pivots: &[u8], bucket: &[u8], index: &[u8]) -> bool
+    requires { ⌜ Checked (now pivots) (now bucket) ⌝ }
+    ensures { λ r. ⌜ not r ≡ wrongIndex (now (pivots .entry)) (now (bucket .entry)) (now (index .entry)) ⌝ }
+{
+    let end = pivots.len() / RECORD_SIZE * PLACE_SIZE;
+    if index.len() != end {
+        return false;
+    }
+    let mut built = [0u8; 128];
+    write_index(pivots, bucket, &mut built);
+    scan::is_prefix_by_words(index, &built[..end])
+}
+
+// Causes 1, 2, 3, 14, 5 and 15; else the total. The caller says whether another argument has cause 2, or 5.
+pub fn check_given(pivots: &[u8], bucket: &[u8], index: &[u8], wrong: bool, outside: bool) -> Answer
+    ensures { λ r. ⌜ r ≡ answer (givenCauses wrong outside (now (pivots .entry)) (now (bucket .entry)) (now (index .entry))) (length (entries (now (bucket .entry)))) ⌝ }
+{
+    let checked = check_entries(pivots, bucket, wrong, outside);
+    let Answer::Value(_) = checked else {
+        return checked;
+    };
+    if !is_index(pivots, bucket, index) {
+        return Answer::Refused(Refusal::WrongIndex);
+    }
+    checked
+}
+
+// The same causes with a key, which the caller says is outside or not; else the number of entries below it.
+pub fn check_side(pivots: &[u8], bucket: &[u8], index: &[u8], k: &[u8], outside: bool) -> Answer
+    ensures { λ r. ⌜ r ≡ answer (givenCauses (tooLong (now (k .entry))) outside (now (pivots .entry)) (now (bucket .entry)) (now (index .entry))) (length (entriesBelow (key (now (k .entry))) (entries (now (bucket .entry))))) ⌝ }
+{
+    let checked = check_given(pivots, bucket, index, MAX_LEN < k.len(), outside);
+    let Answer::Value(_) = checked else {
+        return checked;
+    };
+    let rec = records::record_of(k.len() as u16, k);
+    Answer::Value(place_from(bucket, &rec, 0))
+}
+
+// Whether an index is the one that belongs to a table and a bucket. Answers the total. Refuses 1, 2, 3, 14, 5 and 15.
+pub fn check_index(pivots: &[u8], bucket: &[u8], index: &[u8]) -> Answer
+    ensures { λ r. ⌜ r ≡ checkIndexAnswer (now (pivots .entry)) (now (bucket .entry)) (now (index .entry)) ⌝ }
+{
+    check_given(pivots, bucket, index, false, false)
+}

@@ -1,0 +1,84 @@
+//! The index beside a bucket.
+
+extern "C" {
+    pub fn jd_build_index(
+        pivots: *const u8,
+        pivots_len: usize,
+        bucket: *const u8,
+        bucket_len: usize,
+        dest: *mut u8,
+        dest_len: usize,
+        total: *mut u64,
+    ) -> u32;
+
+    pub fn jd_check_index(
+        pivots: *const u8,
+        pivots_len: usize,
+        bucket: *const u8,
+        bucket_len: usize,
+        index: *const u8,
+        index_len: usize,
+        total: *mut u64,
+    ) -> u32;
+
+    pub fn jd_slot_entries(
+        pivots: *const u8,
+        pivots_len: usize,
+        bucket: *const u8,
+        bucket_len: usize,
+        index: *const u8,
+        index_len: usize,
+        slot: u64,
+        count: *mut u64,
+    ) -> u32;
+
+    pub fn jd_cut_index_left(
+        pivots: *const u8,
+        pivots_len: usize,
+        bucket: *const u8,
+        bucket_len: usize,
+        index: *const u8,
+        index_len: usize,
+        key: *const u8,
+        key_len: usize,
+        dest_bucket: *mut u8,
+        dest_bucket_len: usize,
+        dest_index: *mut u8,
+        dest_index_len: usize,
+        total: *mut u64,
+    ) -> u32;
+
+    pub fn jd_cut_index_right(
+        pivots: *const u8,
+        pivots_len: usize,
+        bucket: *const u8,
+        bucket_len: usize,
+        index: *const u8,
+        index_len: usize,
+        key: *const u8,
+        key_len: usize,
+        dest_bucket: *mut u8,
+        dest_bucket_len: usize,
+        dest_index: *mut u8,
+        dest_index_len: usize,
+        total: *mut u64,
+    ) -> u32;
+
+    pub fn jd_translate_index(
+        pivots: *const u8,
+        pivots_len: usize,
+        bucket: *const u8,
+        bucket_len: usize,
+        index: *const u8,
+        index_len: usize,
+        prefix: *const u8,
+        prefix_len: usize,
+        new_prefix: *const u8,
+        new_prefix_len: usize,
+        dest_bucket: *mut u8,
+        dest_bucket_len: usize,
+        dest_index: *mut u8,
+        dest_index_len: usize,
+        total: *mut u64,
+    ) -> u32;
+}
