@@ -1,7 +1,8 @@
-// Calls the three functions that hand back a part of what they are lent, and prints each part: a line of hexadecimal,
+// Calls the four functions that hand back a part of what they are lent, and prints each part: a line of hexadecimal,
 // `-` where the part is empty.
 use libc::STDOUT_FILENO;
 use model::ENTRY_SIZE;
+use model::PLACE_SIZE;
 use model::RECORD_SIZE;
 ghost use mathlib.Core.Path.{_≡_};
 ghost use lib.ListN.{length};
@@ -51,6 +52,27 @@ fn show_place(a: [u8; 66], b: [u8; 66], c: [u8; 66], place: usize) {
     print_part(tables::get_key_part(&pivots, place));
 }
 
+// Two entries, one after the other, with the number 0.
+fn put_entries(a: &[u8], b: &[u8], dest: &mut [u8])
+    requires { ⌜ length (now dest) ≡ 140 ⌝ }
+{
+    records::put_record(1, a, dest);
+    records::put_record(1, b, &mut dest[ENTRY_SIZE..]);
+}
+
+// The part of a bucket with two entries that a slot of three pivots has, by the index that is built.
+fn show_slot(a: &[u8], b: &[u8], slot: usize) {
+    let mut pivots = [0u8; 3 * RECORD_SIZE];
+    let mut bucket = [0u8; 2 * ENTRY_SIZE];
+    let mut index = [0u8; 3 * PLACE_SIZE];
+    let first = records::record_of(1, b"a");
+    let second = records::record_of(1, b"c");
+    put_pivots(first, second, records::record_of(1, b"e"), &mut pivots);
+    put_entries(a, b, &mut bucket);
+    indexes::build_index(&pivots, &bucket, &mut index);
+    print_part(indexes::slot_entries_part(&pivots, &bucket, &index, slot));
+}
+
 fn main() {
     // a key, the empty key, max, no edge, a length of 65, a byte after the key
     io::write_all(STDOUT_FILENO, b"pivot_key_part\n");
@@ -73,4 +95,11 @@ fn main() {
     show_place(a, b, c, 2);
     show_place(a, b, c, 3);
     show_place(b, a, c, 0);
+    // entries in slots 0 and 1, both in slot 1 and slot 0 empty, slot 2, which is past the last, and entries that fall
+    io::write_all(STDOUT_FILENO, b"slot_entries_part\n");
+    show_slot(b"a", b"c", 0);
+    show_slot(b"a", b"c", 1);
+    show_slot(b"c", b"d", 0);
+    show_slot(b"a", b"c", 2);
+    show_slot(b"c", b"a", 0);
 }
