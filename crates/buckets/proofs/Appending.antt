@@ -1,6 +1,6 @@
 -- The pass over entries that writes them: what is left to write, put after what stands, gives the whole.
 use mathlib.Core.Path.{_≡_, refl, sym, ap, _∙_}
-use mathlib.Core.Bool.{true, false}
+use mathlib.Core.Bool.{true}
 use mathlib.Core.List.{List, [], _∷_, _++_, append-assoc}
 use mathlib.Core.Logic.{⊎-elim}
 use mathlib.Core.Option.{none}
@@ -16,23 +16,17 @@ use Rattle.model.specs.declared.Refusal.the-variants.{TooLong, NoRoom}
 use Rattle.model.specs.keys.Key.{Key}
 use Rattle.model.specs.records.Record.{joined}
 use Rattle.model.specs.tables.Tables.{all}
-use Rattle.model.specs.buckets.Bucket.{Bucket, entrySize, encodeEntry, encodeBucket}
+use Rattle.model.specs.buckets.Bucket.{entrySize, encodeBucket}
 use Rattle.model.specs.calls.Refusals.{first, over}
 use Rattle.model.specs.calls.BucketCalls.{newBucket, shortEntry, neededBytes, bucketLong, bucketFull, renameCauses, translateBucketCauses}
 use Rattle.model.proofs.Lists.{rest, lent-on, over-append, length-over, all-append, le-or-lt}
 use Rattle.model.proofs.keys.Key.{both}
-use Rattle.model.proofs.records.Records.{joined-append}
-use Rattle.model.proofs.buckets.Entries.{length-encodeBucket}
+use Rattle.model.proofs.buckets.Entries.{encode-append, length-encodeBucket}
 use Rattle.model.proofs.calls.Refusals.{none-here, none-later, none-before, none-after}
 use Rattle.model.proofs.calls.BucketCalls.{bucket-most, kept-sized}
 use Rattle.model.specs.inner.Places.{entryAt}
 use Rattle.buckets.specs.Kept.{Checked, Good, keptOf, keptBytes}
 use Rattle.buckets.proofs.Measuring.{left, left-over, left-next, entry-checked, kept-most}
-
--- the bytes of entries and then of others are those of all
-encode-append : (a b : Bucket) → encodeBucket (a ++ b) ≡ encodeBucket a ++ encodeBucket b
-unfolding encodeBucket
-encode-append a b = joined-append encodeEntry a b
 
 -- a list of length 0 is empty
 no-bytes : (l : List ℕ) → length l ≡ 0 → l ≡ []

@@ -15,7 +15,7 @@ use Rattle.model.proofs.Lists.{rest, into-over, getD-map}
 use Rattle.model.proofs.keys.Key.{bytes-of}
 use Rattle.model.proofs.records.InTurn.{turn-start, turn-next, turn-end}
 use Rattle.model.proofs.buckets.IndexBytes.{aPlace, all-places, length-place}
-use Rattle.model.proofs.buckets.IndexCuts.{length-places, place-small}
+use Rattle.model.proofs.buckets.IndexBytes.{length-places, place-small}
 use Rattle.index_cuts.specs.Beside.{placeBeside}
 
 module _ (left : Bool) (m n w : ℕ) (e : w ≡ min m n) where

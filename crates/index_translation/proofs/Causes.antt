@@ -1,7 +1,7 @@
 -- What translate_index answers and leaves, by what its steps do: the check, the room of the index, the bucket's translation, and the new places.
 use mathlib.Core.Path.{_≡_, refl, sym, ap, _∙_}
 use mathlib.Core.Bool.{Bool, true, false, cond, not, _||_, or-true, or-false}
-use mathlib.Core.List.{List, [], _∷_, map}
+use mathlib.Core.List.{List, _∷_, map}
 use mathlib.Core.Option.{none}
 use Prim.Native.Nat.{ℕ, _*_, _≤_, _<_}
 use native.Mathlib.Omega.{arith}
@@ -25,7 +25,8 @@ use Rattle.model.specs.calls.IndexCalls.{entriesCauses, givenCauses, translateI
 use Rattle.model.proofs.calls.Refusals.{after, passed, accepted, handed-on, handed-on-first, call-passed}
 use Rattle.model.proofs.calls.TableCalls.{causes-sorted}
 use Rattle.model.proofs.calls.BucketCalls.{bucket-count, bucket-most, bucket-whole}
-use Rattle.model.proofs.calls.IndexCauses.{entries-pivots, entries-wrong, entries-bucket, entries-rise, given-entries, given-length, given-places}
+use Rattle.model.proofs.calls.TranslatedIndex.{given-rename}
+use Rattle.model.proofs.calls.IndexCauses.{entries-pivots, entries-bucket, entries-rise, given-entries, given-length, given-places}
 use Rattle.model.proofs.buckets.Bucket.{translated-wft}
 use Rattle.model.proofs.buckets.Index.{index-most, index-rises}
 use Rattle.model.proofs.buckets.IndexTranslation.{translated-index}
@@ -99,7 +100,7 @@ module _ (p l x : List ℕ) (old new : Key) (wrong : Bool) (e : wrong ≡ (tooLo
 
     -- the bucket and the prefixes have none of the causes 1 and 2
     pub given-good : first (renameCauses l old new) ≡ none
-    given-good = rw (entries-wrong (tooLong old || tooLong new) false p l by-entries) by-bucket
+    given-good = given-rename p l x old new given
 
     index-length : length x ≡ length (elements p) * placeSize
     index-length = given-length (tooLong old || tooLong new) false p l x given

@@ -16,7 +16,7 @@ use Rattle.model.specs.calls.Refusals.{over}
 use Rattle.model.proofs.Lists.{getD-map, rest, into-over, length-over}
 use Rattle.model.proofs.records.InTurn.{turn-start, turn-next, turn-end}
 use Rattle.model.proofs.buckets.IndexBytes.{aPlace, all-places, length-place, length-encodeIndex}
-use Rattle.model.proofs.buckets.IndexCuts.{length-places}
+use Rattle.model.proofs.buckets.IndexBytes.{length-places}
 use Rattle.index_translation.specs.Kept.{keptBefore, newPlaces, Placed}
 use Rattle.index_translation.proofs.Counting.{kept-none, kept-most}
 

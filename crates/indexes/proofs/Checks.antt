@@ -1,12 +1,11 @@
 -- The ways out of the checks: causes 1, 2, 3, 14 and 5 of pivots and bucket, and 15 of the index.
 use mathlib.Core.Path.{_≡_, refl, sym, ap, _∙_}
-use mathlib.Core.Bool.{Bool, true, false, not, _&&_, _||_}
-use mathlib.Core.List.{List, [], _∷_, _++_}
-use mathlib.Core.Option.{none, some}
+use mathlib.Core.Bool.{Bool, true, false, not, _||_}
+use mathlib.Core.List.{List, _∷_}
+use mathlib.Core.Option.{none}
 use Prim.Native.Nat.{ℕ, _*_, _/_, _≤_, _<_}
 use native.Mathlib.Omega.{arith}
-use borrow.Author.Tests.{not-true, not-false, ne-eqb, eq-eqb, lt-ltb, le-ltb, ltb-false, le-leb}
-use lib.Dec.{eqb}
+use borrow.Author.Tests.{not-false, ne-eqb, eq-eqb, lt-ltb, le-ltb, ltb-false, le-leb}
 use lib.ListN.{length, take, length-append}
 use mir.Syntax.{w16}
 use mir.Val.{Fits}

@@ -1,22 +1,21 @@
 -- The record at the head of an entry, in a bucket that is read.
 use mathlib.Core.Path.{_≡_, refl, sym, ap, _∙_}
-use mathlib.Core.Bool.{Bool, true, false, false≢true}
-use mathlib.Core.List.{List, []}
+use mathlib.Core.Bool.{true, false≢true}
+use mathlib.Core.List.{List}
 use Prim.Native.Nat.{ℕ, _+_, _*_, _-_, _/_, _≤_, _<_}
 use native.Mathlib.Nat.{add-sub-cancel-left}
 use native.Mathlib.Omega.{arith}
 use borrow.Author.Tests.{ne-eqb}
 use lib.IntN.{ℤ, pos}
-use lib.ListN.{length, take, drop, getD, length-map}
+use lib.ListN.{length, take, drop, getD}
 use lib.Seq.{take-take, length-take-le}
 use lib.Signed.{ltZ}
 use mir.Syntax.{w64}
 use mir.Val.{toZ, ofZ}
 use Rattle.model.specs.declared.Reading.{Reading}
 use Rattle.model.specs.declared.Reading.the-variants as reads
-use Rattle.model.specs.keys.Order.{Element, key, lt, cmp}
+use Rattle.model.specs.keys.Order.{key, lt, cmp}
 use Rattle.model.specs.records.Record.{recordSize, maxMark, lengthField, reading, keyReading, elementReading, element, keyBytes}
-use Rattle.model.specs.tables.Tables.{all}
 use Rattle.model.specs.inner.Places.{entryAt}
 use Rattle.model.specs.buckets.Bucket.{Entry, entrySize, entryRecord, entryOf, entryBytes, entries}
 use Rattle.model.specs.calls.BucketCalls.{entriesRead}
@@ -26,6 +25,10 @@ use Rattle.model.proofs.records.Records.{piece-at}
 use Rattle.keys.specs.Padded.{Padded}
 use Rattle.keys.proofs.Elements.{told-below}
 use Rattle.buckets.proofs.Places.{past-entries, length-entryBytes, entry-size}
+
+-- what is asked for past the last entry
+abbrev pub none-such : Entry
+none-such = record { key = []; number = [] }
 
 -- past the last entry there is no record
 pub past-records : (l : List ℕ) (i : ℕ) → length l / entrySize ≤ i → [] ≡ entryRecord (entryAt l i)

@@ -1,7 +1,7 @@
 -- The pass over pivots and entries together: what is written so far, and that no entry is passed over.
-use mathlib.Core.Path.{_≡_, refl, sym, ap, _∙_}
-use mathlib.Core.Bool.{Bool, true, false}
-use mathlib.Core.List.{List, []}
+use mathlib.Core.Path.{_≡_, refl, sym, _∙_}
+use mathlib.Core.Bool.{false}
+use mathlib.Core.List.{List}
 use Prim.Native.Nat.{ℕ, _+_, _*_, _-_, _/_, _≤_, _<_}
 use native.Mathlib.Omega.{arith}
 use borrow.Rule.Slice.PartMut.{putMid}
@@ -9,13 +9,12 @@ use lib.ListN.{length, take, drop, length-append, length-drop}
 use lib.Seq.{length-take-le}
 use mir.Syntax.{w16}
 use mir.Val.{Fits}
-use Rattle.model.specs.keys.Order.{Element}
-use Rattle.model.specs.records.Record.{recordSize, reading, elementReading, records, element, elements}
-use Rattle.model.specs.tables.Tables.{all, pivotAt}
+use Rattle.model.specs.records.Record.{reading, elementReading, records, element, elements}
+use Rattle.model.specs.tables.Tables.{pivotAt}
 use Rattle.model.specs.inner.Places.{recordAt}
 use Rattle.model.specs.inner.Written.{into}
 use Rattle.model.specs.buckets.Bucket.{entries}
-use Rattle.model.specs.buckets.Index.{entriesBelow, Index, placeAt, placeSize, encodePlace, encodeIndex}
+use Rattle.model.specs.buckets.Index.{entriesBelow, Index, placeAt, encodePlace, encodeIndex}
 use Rattle.model.specs.calls.Refusals.{over}
 use Rattle.model.specs.calls.IndexCalls.{indexBytes}
 use Rattle.model.proofs.Lists.{all-inside, into-over, length-over, lent-on, rest}
@@ -25,7 +24,8 @@ use Rattle.model.proofs.tables.Routing.{wf-count, wf-sorted}
 use Rattle.model.proofs.calls.TableCalls.{length-records, length-elements, record-length, element-at, causes-read, read-elements}
 use Rattle.model.proofs.calls.BucketCalls.{bucket-most, bucket-count}
 use Rattle.model.proofs.calls.IndexCauses.{entries-pivots, entries-wf, entries-bucket, entries-rise}
-use Rattle.model.proofs.buckets.Below.{below-le, below-most}
+use Rattle.model.proofs.buckets.Below.{below-most}
+use Rattle.model.proofs.buckets.Index.{below-rises}
 use Rattle.model.proofs.buckets.IndexBytes.{aPlace, all-places, length-place, index-count, index-at}
 use Rattle.keys.specs.Padded.{Padded}
 use Rattle.indexes.specs.Checked.{Rising, Checked}
@@ -100,6 +100,6 @@ module _ (p l d₀ : List ℕ) (h : Checked p l) (m : length (elements p) * 2 �
               record {
                 within = omega arith;
                 long = rw (lent-on, u, length-append, length-over (encodePlace n) (take (length d - i * 2) (drop (i * 2) d)) (omega (arith, z, length-place n refl)), rest, length-drop, length-take-le (i * 2) d place-room) (omega (arith, w .long, place-room));
-                near = λ u′. rw (e, same) (below-le (pivotAt (elements p) i) (pivotAt (elements p) (i + 1)) (entries l) (sorted-lte (elements p) i (i + 1) (wf-sorted (elements p) (entries-wf false false p l h)) (omega arith) (omega arith)));
+                near = λ u′. rw (e, same) (below-rises (pivotAt (elements p) i) (pivotAt (elements p) (i + 1)) (sorted-lte (elements p) i (i + 1) (wf-sorted (elements p) (entries-wf false false p l h)) (omega arith) (omega arith)) (entries l));
                 bytes = turn-next encodePlace (Index (elements p) (entries l)) 2 aPlace length-place (all-places (Index (elements p) (entries l))) i (omega (arith, count)) 0 d₀ d v (w .bytes) (rw q u);
               }

@@ -1,29 +1,26 @@
 -- Places: where the entries below an element end, and a place as two bytes.
-use mathlib.Core.Path.{_≡_, refl, sym, ap, _∙_}
+use mathlib.Core.Path.{_≡_, sym, _∙_}
 use mathlib.Core.Bool.{Bool, true, false, not}
-use mathlib.Core.List.{List, []}
-use Prim.Native.Nat.{ℕ, _+_, _*_, _-_, _/_, _%_, _≤_, _<_}
+use mathlib.Core.List.{List}
+use Prim.Native.Nat.{ℕ, _+_, _*_, _-_, _/_, _≤_, _<_}
 use native.Mathlib.Nat.{add-sub-cancel-left}
 use native.Mathlib.Omega.{arith}
 use borrow.Author.Tests.{not-true, not-false, ltb-true, ltb-false}
 use lib.Dec.{ltb}
-use lib.ListN.{length, take, drop, getD, length-map, List·getD-eq-default}
-use Rattle.model.specs.keys.Order.{Element, key, lt}
+use lib.ListN.{length, take, drop, getD, List·getD-eq-default}
+use Rattle.model.specs.keys.Order.{lt}
 use Rattle.model.specs.records.Record.{element, lengthField, pieces}
 use Rattle.model.specs.inner.Places.{entryAt}
-use Rattle.model.specs.buckets.Bucket.{Entry, entrySize, entryRecord, entries, entryBytes}
+use Rattle.model.specs.buckets.Bucket.{entrySize, entryRecord, entries}
 use Rattle.model.specs.buckets.Index.{isBelow, entriesBelow, placeAt, placeSize, places}
-use Rattle.model.specs.calls.BucketCalls.{entriesRead}
 use Rattle.model.proofs.Lists.{getD-map}
 use Rattle.model.proofs.records.Records.{length-pieces, piece-at}
 use Rattle.model.proofs.calls.BucketCalls.{bucket-read}
+use Rattle.model.proofs.buckets.IndexBytes.{length-places}
 use Rattle.model.proofs.buckets.Below.{below-at, below-most}
 use Rattle.buckets.proofs.Places.{length-entries}
 use Rattle.indexes.specs.Checked.{Rising}
-use Rattle.indexes.proofs.Entries.{key-here}
-
-abbrev none-such : Entry
-none-such = record { key = []; number = [] }
+use Rattle.indexes.proofs.Entries.{none-such, key-here}
 
 -- ---- the scan for a place: no entry before it isn't below
 
@@ -50,13 +47,9 @@ module _ (l r : List ℕ) (w : Rising l) (i : ℕ) (m : i ≤ length (entriesBel
 -- ---- as two bytes
 
 module _ (x : List ℕ) (i : ℕ) where
-  length-places : length (places x) ≡ length x / placeSize
-  unfolding places
-  length-places = length-map (pieces placeSize (length x / placeSize) x) lengthField ∙ length-pieces placeSize (length x / placeSize) x
-
   -- past the last
   pub no-place : length x / 2 ≤ i → 0 ≡ placeAt (places x) i
-  no-place h = sym (List·getD-eq-default (places x) 0 (omega (arith, length-places)))
+  no-place h = sym (List·getD-eq-default (places x) 0 (omega (arith, length-places x)))
 
   pub place-read : i < length x / 2 → (n : ℕ) → n ≡ lengthField (take (i * 2 + 2 - i * 2) (drop (i * 2) x)) → n ≡ placeAt (places x) i
   unfolding places

@@ -1,32 +1,32 @@
 -- The pass over entries that compares each with the next, and the two ends of a bucket that rises.
-use mathlib.Core.Path.{_≡_, refl, sym, ap, _∙_}
-use mathlib.Core.Bool.{Bool, true, false, cond, not, _&&_, _||_, true≢false}
-use mathlib.Core.List.{List, [], _∷_, map}
+use mathlib.Core.Path.{_≡_, refl, sym, _∙_}
+use mathlib.Core.Bool.{Bool, true, false, not, true≢false}
+use mathlib.Core.List.{List, _∷_}
 use mathlib.Core.Logic.{⊎-elim}
 use Prim.Native.Nat.{ℕ, zero, suc, _+_, _-_, _/_, _≤_, _<_}
 use native.Mathlib.Numerals.{add-one}
 use native.Mathlib.Nat.{eq-or-lt-of-le}
 use native.Mathlib.Omega.{arith}
 use borrow.Author.Tests.{not-true, not-false}
-use lib.ListN.{length, drop, getD, length-map, length-drop, drop-of-length-le}
+use lib.ListN.{length, drop, getD, length-drop}
 use lib.Seq.{drop-cons}
-use Rattle.model.specs.keys.Order.{Element, key, max, lte, lt}
+use Rattle.model.specs.keys.Order.{key, lte, lt}
 use Rattle.model.specs.records.Record.{element, elements}
 use Rattle.model.specs.tables.Tables.{PivotTable, pivotAt, lastPivot, all, WFPivots, BoundedKey, risesFrom, IsStrictlySorted}
 use Rattle.model.specs.inner.Places.{recordAt, entryAt}
 use Rattle.model.specs.buckets.Bucket.{Entry, Bucket, entrySize, entryRecord, entryBytes, entries, entriesRise}
-use Rattle.model.specs.calls.BucketCalls.{entriesRead, bucketCauses}
+use Rattle.model.specs.calls.BucketCalls.{entriesRead}
 use Rattle.model.specs.calls.IndexCalls.{entriesInside}
-use Rattle.model.proofs.Lists.{le-or-lt, inside-all, all-inside}
+use Rattle.model.proofs.Lists.{inside-all, all-inside}
 use Rattle.model.proofs.keys.Key.{both}
-use Rattle.model.proofs.keys.Order.{lte-trans, lte-trans-lt, lt-trans-lte, lt-lte, lte-refl, refuted}
+use Rattle.model.proofs.keys.Order.{lte-trans, lte-trans-lt, lt-lte, lte-refl, refuted}
 use Rattle.model.proofs.calls.TableCalls.{length-elements, element-at}
 use Rattle.model.proofs.calls.BucketCalls.{bucket-read}
 use Rattle.model.proofs.buckets.Below.{rise-at}
 use Rattle.model.proofs.tables.Routing.{wf-count}
 use Rattle.buckets.proofs.Places.{length-entries}
 use Rattle.indexes.specs.Checked.{Rising}
-use Rattle.indexes.proofs.Entries.{key-here}
+use Rattle.indexes.proofs.Entries.{none-such, key-here}
 
 -- ---- entries from a place on
 
@@ -58,11 +58,11 @@ module _ (l : List ℕ) (w : entriesRead (entryBytes l) ≡ true) (i : ℕ) (r :
 
     -- an entry that isn't below the next makes the answer
     pub falls : not t ≡ true → false ≡ entriesRise (entries l)
-    falls k = sym (rw (not-true t k) at (here-rises (record { key = []; number = [] })))
+    falls k = sym (rw (not-true t k) at (here-rises none-such))
 
     -- else those after it do
     pub rises-on : not t ≡ false → entriesRise (entries l) ≡ entriesRise (drop (i + 1) (entries l))
-    rises-on k = rw (not-false t k) at (here-rises (record { key = []; number = [] }))
+    rises-on k = rw (not-false t k) at (here-rises none-such)
 
 -- ---- the two ends
 
@@ -98,9 +98,6 @@ module _ (pt : PivotTable) (b : Bucket) (h : entriesRise b ≡ true) (n : 0 < le
       go true true f g = inside-all (λ (e : Entry). lte (pivotAt pt 0) (key (e .key)) && lt (key (e .key)) (lastPivot pt)) b d (each f g)
       go false t f g = refuted _ (λ u. true≢false (sym (at u 0 n .0) ∙ f))
       go true false f g = refuted _ (λ u. true≢false (sym (at u (length b - 1) (omega arith) .1) ∙ g))
-
-abbrev none-such : Entry
-none-such = record { key = []; number = [] }
 
 module _ (p l : List ℕ) (v : WFPivots (elements p) ≡ true) (w : Rising l) where
   read : entriesRead (entryBytes l) ≡ true

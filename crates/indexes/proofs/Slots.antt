@@ -1,13 +1,12 @@
 -- The entries of a slot, by the places of a checked index: how many, and which bytes.
-use mathlib.Core.Path.{_≡_, refl, sym, ap, _∙_}
-use mathlib.Core.Bool.{true, false, not}
-use mathlib.Core.List.{List, [], _∷_, map}
+use mathlib.Core.Path.{_≡_, sym, ap, _∙_}
+use mathlib.Core.Bool.{false}
+use mathlib.Core.List.{List, map}
 use mathlib.Core.Option.{none}
 use Prim.Native.Nat.{ℕ, _+_, _*_, _-_, _/_, _≤_, _<_}
 use native.Mathlib.Nat.{add-sub-cancel-left}
 use native.Mathlib.Omega.{arith}
-use borrow.Author.Tests.{lt-ltb, le-ltb, ltb-true, not-false}
-use lib.Dec.{ltb}
+use borrow.Author.Tests.{lt-ltb, le-ltb}
 use lib.ListN.{length, take, drop, getD, length-drop}
 use mir.Syntax.{w8, w64}
 use mir.Val.{Fits}
@@ -15,17 +14,17 @@ use Rattle.model.specs.declared.Refusal.the-variants.{NoSuchSlot}
 use Rattle.model.specs.declared.Answer.{Answer}
 use Rattle.model.specs.declared.Answer.the-variants.{Value, Refused}
 use Rattle.model.specs.records.Record.{joined, elements}
-use Rattle.model.specs.tables.Tables.{NumBuckets, all}
-use Rattle.model.specs.buckets.Bucket.{entrySize, entries, encodeEntry, encodeBucket, sizedEntry}
+use Rattle.model.specs.tables.Tables.{NumBuckets}
+use Rattle.model.specs.buckets.Bucket.{entries, encodeEntry, encodeBucket, sizedEntry}
 use Rattle.model.specs.buckets.Index.{Index, placeAt, slotEntries, places}
-use Rattle.model.specs.calls.Refusals.{_⇒_, outcome, first, answer}
+use Rattle.model.specs.calls.Refusals.{outcome, first}
 use Rattle.model.specs.calls.BucketCalls.{bucketCauses}
 use Rattle.model.specs.calls.IndexCalls.{givenCauses, checkIndexAnswer, slotEntriesCauses, slotEntriesAnswer, slotEntriesPart}
 use Rattle.model.proofs.Lists.{all-parts}
 use Rattle.model.proofs.keys.Key.{bytes-of}
 use Rattle.model.proofs.tables.Routing.{wf-count, wf-sorted}
 use Rattle.model.proofs.records.Records.{joined-take, joined-drop}
-use Rattle.model.proofs.calls.Refusals.{accepted, value-is, after, passed, none-before, none-after, none-here}
+use Rattle.model.proofs.calls.Refusals.{accepted, value-is, after, none-before}
 use Rattle.model.proofs.calls.TableCalls.{length-elements}
 use Rattle.model.proofs.calls.IndexCalls.{part-is, part-inside}
 use Rattle.model.proofs.calls.BucketCalls.{bucket-whole, bucket-count, bucket-most, bucket-sized, bucket-encode}

@@ -4,7 +4,7 @@ use mathlib.Core.Bool.{true, false}
 use mathlib.Core.List.{List}
 use mathlib.Core.Option.{none}
 use Prim.Native.Nat.{ℕ}
-use Rattle.model.specs.buckets.Bucket.{entryBytes, entries, entriesRise}
+use Rattle.model.specs.buckets.Bucket.{entries, entriesRise}
 use Rattle.model.specs.calls.Refusals.{first}
 use Rattle.model.specs.calls.BucketCalls.{bucketCauses}
 use Rattle.model.specs.calls.IndexCalls.{entriesCauses}

@@ -5,7 +5,7 @@ ghost use mathlib.Core.Path.{_≡_};
 ghost use mathlib.Core.Bool.{true, not};
 ghost use Prim.Native.Nat.{_+_, _/_, _<_};
 ghost use lib.ListN.{length};
-ghost use Rattle.model.specs.keys.Order.{key, lt};
+ghost use Rattle.model.specs.keys.Order.{lt};
 ghost use Rattle.model.specs.records.Record.{element, elements};
 ghost use Rattle.model.specs.tables.Tables.{WFPivots};
 ghost use Rattle.model.specs.inner.Places.{entryAt};

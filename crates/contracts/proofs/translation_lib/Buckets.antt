@@ -1,28 +1,22 @@
 -- TranslationLib, lines 360 to 403: buckets under another prefix.
 use mathlib.Core.Path.{_≡_, refl}
 use mathlib.Core.Bool.{true, false}
-use mathlib.Core.List.{List, [], _∷_, _++_, map, map-append}
+use mathlib.Core.List.{List, [], _∷_, _++_, map-append}
 use Prim.Native.Nat.{ℕ, _+_, _≤_, _<_}
 use native.Mathlib.Numerals.{add-one}
 use native.Mathlib.Omega.{arith}
 use lib.ListN.{length, drop, getD, length-map, drop-of-length-le}
 use lib.Seq.{drop-cons}
 use Rattle.model.specs.keys.Key.{Key, IsPrefix, changePrefix}
-use Rattle.model.specs.keys.Order.{Element}
 use Rattle.model.specs.buckets.Bucket.{Entry, Bucket, TranslateBucket, TranslateBuckets, entriesRise, keptFrom, WFTBucket}
 use Rattle.model.proofs.Lists.{getD-map}
-use Rattle.model.proofs.tables.Places.{sorted-tail}
 use Rattle.model.proofs.buckets.Bucket.{translated-wft}
+use Rattle.model.proofs.buckets.Below.{rise-tail}
 use Rattle.model.proofs.buckets.Renamed.{renamed-rises}
 use Rattle.contracts.specs.Translation.{TranslateBucketInternal}
 use Rattle.contracts.proofs.translation_lib.Shared.{from-place}
 
 -- ---- from a place on
-
--- entries rise strictly where they do so after one more
-rise-tail : (e : Entry) (b : Bucket) → entriesRise (e ∷ b) ≡ true → entriesRise b ≡ true
-unfolding entriesRise
-rise-tail e b = sorted-tail (Element.key (e .key)) (map (λ (x : Entry). Element.key (x .key)) b)
 
 module _ (bucket : Bucket) (p q : Key) (idx : ℕ) where
   -- function TranslateBucketInternal(bucket: Bucket, prefix: Key, newPrefix: Key, idx: int) : (tbucket: TBucket)

@@ -1,20 +1,19 @@
 -- Entries that rise: those below an element stand first, and their number is the place of the first that isn't.
 use mathlib.Core.Path.{_≡_, refl, sym, ap, _∙_}
 use mathlib.Core.Bool.{Bool, true, false, cond, not, true≢false}
-use mathlib.Core.List.{List, [], _∷_, _++_, map}
+use mathlib.Core.List.{[], _∷_, _++_, map}
 use mathlib.Core.Logic.{⊎-elim}
-use Prim.Native.Nat.{ℕ, zero, suc, _+_, _-_, _≤_, _<_}
+use Prim.Native.Nat.{ℕ, zero, suc, _-_, _≤_, _<_}
 use native.Mathlib.Omega.{arith}
 use borrow.Author.Tests.{lt-ltb, le-ltb}
 use lib.Dec.{ltb}
-use lib.ListN.{length, take, drop, getD, length-append}
+use lib.ListN.{length, take, drop, getD}
 use lib.Seq.{take-append-seam, drop-append-seam}
-use Rattle.model.specs.keys.Order.{Element, key, lte, lt}
-use Rattle.model.specs.tables.Tables.{IsStrictlySorted}
+use Rattle.model.specs.keys.Order.{Element, key, lt}
 use Rattle.model.specs.buckets.Bucket.{Entry, Bucket, entriesRise}
 use Rattle.model.specs.buckets.Index.{only, isBelow, entriesBelow, entriesFrom}
 use Rattle.model.proofs.Lists.{le-or-lt}
-use Rattle.model.proofs.keys.Order.{lt-lte, lte-trans-lt, lt-trans-lte, refuted}
+use Rattle.model.proofs.keys.Order.{lt-lte, lte-trans-lt, refuted}
 use Rattle.model.proofs.tables.Places.{sorted-head, sorted-tail}
 
 -- ---- entries that pass a test
@@ -28,18 +27,6 @@ only-most test (e ∷ b) = go (test e) (only-most test b)
     go : (t : Bool) → length (only test b) ≤ length b → length (cond t (e ∷ only test b) (only test b)) ≤ length (e ∷ b)
     go true h = omega arith
     go false h = omega arith
-
--- where all that passes one test passes another, no more pass the first
-pub only-le : (s t : Entry → Bool) (b : Bucket) → ((e : Entry) → s e ≡ true → t e ≡ true) → length (only s b) ≤ length (only t b)
-unfolding only
-only-le s t [] f = omega arith
-only-le s t (e ∷ b) f = go (s e) (t e) (f e) (only-le s t b f)
-  where
-    go : (u v : Bool) → (u ≡ true → v ≡ true) → length (only s b) ≤ length (only t b) → length (cond u (e ∷ only s b) (only s b)) ≤ length (cond v (e ∷ only t b) (only t b))
-    go true true g h = omega arith
-    go true false g h = absurd (true≢false (sym (g refl)))
-    go false true g h = omega arith
-    go false false g h = h
 
 -- all pass, or none does
 pub only-all : (test : Entry → Bool) (b : Bucket) → ((i : ℕ) (d : Entry) → i < length b → test (getD b i d) ≡ true) → only test b ≡ b
@@ -80,11 +67,6 @@ rise-at (e ∷ b) h zero zero d k l = absurd (omega arith)
 rise-at (e ∷ b) h zero (suc j) d k l = rise-first e b h j d (omega arith)
 rise-at (e ∷ b) h (suc i) zero d k l = absurd (omega arith)
 rise-at (e ∷ b) h (suc i) (suc j) d k l = rise-at b (rise-tail e b h) i j d (omega arith) (omega arith)
-
--- no fewer are below an element that isn't below another
-pub below-le : (p q : Element) (b : Bucket) → lte p q ≡ true → length (entriesBelow p b) ≤ length (entriesBelow q b)
-unfolding entriesBelow
-below-le p q b h = only-le (isBelow p) (isBelow q) b (λ e k. lt-trans-lte (key (e .key)) p q k h)
 
 -- what isn't below p has nothing after it that is
 pub not-below-on : (p a b : Element) → lt a b ≡ true → lt a p ≡ false → lt b p ≡ false

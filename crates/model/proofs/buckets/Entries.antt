@@ -16,7 +16,7 @@ use Rattle.model.specs.tables.Tables.{all}
 use Rattle.model.specs.buckets.Bucket.{Entry, Bucket, numberSize, entrySize, entryRecord, entryOf, encodeEntry, entryBytes, entries, encodeBucket, sizedEntry}
 use Rattle.model.proofs.keys.Key.{both, bytes-take}
 use Rattle.model.proofs.records.Record.{key-read, key-record, length-record, bytes-record}
-use Rattle.model.proofs.records.Records.{length-joined, read-joined}
+use Rattle.model.proofs.records.Records.{joined-append, length-joined, read-joined}
 
 -- an entry reads back from its bytes
 pub entry-encode : (e : Entry) → length (e .key) ≤ maxLen → length (e .number) ≡ numberSize → entryOf (encodeEntry e) ≡ e
@@ -38,6 +38,11 @@ module _ (e : Entry) (h : sizedEntry e ≡ true) where
 
   read-entry : entryOf (encodeEntry e) ≡ e
   read-entry = entry-encode e (sized .0) (sized .1)
+
+-- the bytes of two buckets, one after the other
+pub encode-append : (a b : Bucket) → encodeBucket (a ++ b) ≡ encodeBucket a ++ encodeBucket b
+unfolding encodeBucket
+encode-append a b = joined-append encodeEntry a b
 
 -- the entries of a bucket have 70 bytes each
 pub length-encodeBucket : (b : Bucket) → all sizedEntry b ≡ true → length (encodeBucket b) ≡ length b * entrySize

@@ -6,22 +6,19 @@ use mathlib.Core.Option.{none}
 use Prim.Native.Nat.{ℕ, suc, _+_, _*_, _-_, _/_, _≤_, _<_, min}
 use native.Mathlib.Numerals.{add-one}
 use native.Mathlib.Omega.{arith}
-use lib.ListN.{length, take, drop, getD, take-append-drop, length-drop, length-map}
+use lib.ListN.{length, take, drop, getD, take-append-drop, length-drop}
 use lib.Seq.{take-suc, take-at, drop-at, drop-cons, length-take-le, getD-take}
 use Rattle.model.specs.keys.Key.{Key, Bytes}
 use Rattle.model.specs.keys.Order.{Element, key, max, lte}
-use Rattle.model.specs.records.Record.{lengthField, pieces}
 use Rattle.model.specs.tables.Tables.{PivotTable, NumBuckets, pivotAt, WFPivots, BoundedKey, ValidLeftCutOffKey, CutoffForLeft, CutoffForRight}
 use Rattle.model.specs.cuts.Cuts.{SplitLeft, SplitRight}
 use Rattle.model.specs.buckets.Bucket.{Entry, Bucket, entrySize, sizedEntry, entries, encodeEntry, encodeBucket, entriesRise}
-use Rattle.model.specs.buckets.Index.{only, isBelow, entriesBelow, entriesFrom, Index, placeAt, placeSize, encodePlace, encodeIndex, places}
+use Rattle.model.specs.buckets.Index.{only, isBelow, entriesBelow, entriesFrom, Index, placeSize, encodePlace, encodeIndex, places}
 use Rattle.model.specs.calls.Refusals.{first}
 use Rattle.model.specs.calls.BucketCalls.{bucketCauses}
-use Rattle.model.proofs.Lists.{getD-map}
-use Rattle.model.proofs.keys.Key.{bytes-take, bytes-drop}
 use Rattle.model.proofs.keys.Order.{lte-total, lt-lte}
 use Rattle.model.proofs.tables.Routing.{route-inside, route-from, cutoff-right-is-route, cutoff-left-inside, cutoff-left-lower, cutoff-left-reaches}
-use Rattle.model.proofs.records.Records.{joined-take, joined-drop, length-pieces, piece-at}
+use Rattle.model.proofs.records.Records.{joined-take, joined-drop}
 use Rattle.model.proofs.buckets.Entries.{length-entry}
 use Rattle.model.proofs.buckets.Below.{below-most, below-take, from-drop}
 use Rattle.model.proofs.buckets.Index.{below-more, below-within, below-rises}
@@ -205,27 +202,6 @@ module _ (pt : PivotTable) (b : Bucket) (x : List ℕ) (e : x ≡ encodeIndex (I
   places-drop =
       let t : drop (n * placeSize) x ≡ encodeIndex (drop n (Index pt b)) = rw e (unfold encodeIndex in (sym (joined-drop placeSize aPlace encodePlace length-place n (Index pt b) inside (all-places (Index pt b))))) in
       rw t (places-encodeIndex (drop n (Index pt b)))
-
--- two bytes say a number below 65536
-field-small : (r : List ℕ) → Bytes r → lengthField r < 65536
-unfolding lengthField
-field-small [] b = omega arith
-field-small (a ∷ []) b = omega (arith, b .0)
-field-small (a ∷ c ∷ r) b = omega (arith, b .0, b .1 .0)
-
-module _ (x : List ℕ) where
-  -- bytes hold a place for each two of them
-  pub length-places : length (places x) ≡ length x / placeSize
-  unfolding places
-  length-places = length-map (pieces placeSize (length x / placeSize) x) lengthField ∙ length-pieces placeSize (length x / placeSize) x
-
-  -- each below 65536
-  pub place-small : (i : ℕ) → i < length x / placeSize → Bytes x → placeAt (places x) i < 65536
-  unfolding places
-  place-small i h b =
-      let n = length-pieces placeSize (length x / placeSize) x in
-      rw (getD-map lengthField (pieces placeSize (length x / placeSize) x) i 0 [] (omega arith), piece-at placeSize (length x / placeSize) i x h)
-      (field-small (take placeSize (drop (i * placeSize) x)) (bytes-take placeSize (drop (i * placeSize) x) (bytes-drop (i * placeSize) x b)))
 
 -- the bytes of a bucket whose entries rise: those of the entries below q, and of the others
 module _ (l : List ℕ) (q : Element) (h : first (bucketCauses false l) ≡ none) (r : entriesRise (entries l) ≡ true) where

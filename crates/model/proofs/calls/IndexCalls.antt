@@ -1,7 +1,7 @@
 -- An index by its bytes: which one the check accepts, what build leaves, and the parts of the slots.
 use mathlib.Core.Path.{_≡_, refl, sym, ap, _∙_}
 use mathlib.Core.Bool.{Bool, true, false, cond}
-use mathlib.Core.List.{List, [], _∷_, _++_}
+use mathlib.Core.List.{List, [], _∷_}
 use mathlib.Core.Option.{none, some}
 use Prim.Native.Nat.{ℕ, zero, suc, _+_, _*_, _≤_, _<_}
 use native.Mathlib.Omega.{arith}
@@ -14,15 +14,14 @@ use Rattle.model.specs.declared.Answer.the-variants as answers
 use Rattle.model.specs.keys.Key.{Bytes}
 use Rattle.model.specs.records.Record.{joined, elements}
 use Rattle.model.specs.tables.Tables.{NumBuckets, all, Route}
-use Rattle.model.specs.buckets.Bucket.{Entry, Bucket, entrySize, entries, encodeEntry, encodeBucket, sizedEntry}
+use Rattle.model.specs.buckets.Bucket.{Entry, entrySize, entries, encodeBucket, sizedEntry}
 use Rattle.model.specs.buckets.Index.{only, Index, placeAt, slotEntries, slotsFrom, slotBuckets, together, placeSize, places}
 use Rattle.model.specs.calls.Refusals.{outcome, first}
 use Rattle.model.specs.calls.KeyCalls.{noRoom}
 use Rattle.model.specs.calls.IndexCalls.{entriesCauses, indexBytes, givenCauses, buildIndexCauses, buildIndexAnswer, buildIndexLeaves}
 use Rattle.model.specs.calls.IndexCalls.{checkIndexAnswer, slotEntriesCauses, slotEntriesAnswer, slotEntriesPart}
-use Rattle.model.proofs.records.Records.{joined-append}
 use Rattle.model.proofs.tables.Routing.{wf-sorted, wf-count}
-use Rattle.model.proofs.buckets.Entries.{length-encodeBucket, entries-encodeBucket}
+use Rattle.model.proofs.buckets.Entries.{encode-append, length-encodeBucket, entries-encodeBucket}
 use Rattle.model.proofs.buckets.IndexBytes.{length-encodeIndex, places-encodeIndex, index-count}
 use Rattle.model.proofs.buckets.Index.{index-first, index-last, index-rises, slot-all, slot-routed}
 use Rattle.model.proofs.buckets.SlotBuckets.{slots-together}
@@ -134,11 +133,6 @@ pub build-leaves : (p l d : List ℕ) (m : ℕ) → buildIndexAnswer p l d ≡ a
 build-leaves p l d m h = indexes-of p l _ m (build-none p l d m h) (build-answers p l d m h) (build-writes p l d m h)
 
 -- ---- the slots' parts
-
--- the bytes of two buckets, one after the other
-pub encode-append : (a b : Bucket) → encodeBucket (a ++ b) ≡ encodeBucket a ++ encodeBucket b
-unfolding encodeBucket
-encode-append a b = joined-append encodeEntry a b
 
 module _ (p l x : List ℕ) where
   -- of a slot that there is

@@ -1,13 +1,13 @@
 -- What a check of pivots, a bucket and an index says where it is passed.
-use mathlib.Core.Path.{_≡_, refl, sym, ap, _∙_}
+use mathlib.Core.Path.{_≡_, refl, sym, _∙_}
 use mathlib.Core.Bool.{Bool, true, false, not, _&&_, _||_}
-use mathlib.Core.List.{List, [], _∷_, _++_}
+use mathlib.Core.List.{List, [], _∷_}
 use mathlib.Core.Option.{none, some}
 use Prim.Native.Nat.{ℕ, _*_}
 use native.Mathlib.Omega.{arith}
 use borrow.Author.Tests.{not-false, eqb-true, eq-eqb}
 use lib.Dec.{eqb}
-use lib.ListN.{length, take}
+use lib.ListN.{length}
 use lib.Seq.{take-all}
 use Rattle.model.specs.declared.Refusal.the-variants.{OutOfRange, EntriesUnsorted, WrongIndex}
 use Rattle.model.specs.keys.Key.{IsPrefix}
@@ -18,7 +18,7 @@ use Rattle.model.specs.buckets.Index.{Index, placeSize, places}
 use Rattle.model.specs.calls.Refusals.{_⇒_, outcome, paired, first}
 use Rattle.model.specs.calls.TableCalls.{pivotCauses}
 use Rattle.model.specs.calls.BucketCalls.{bucketCauses}
-use Rattle.model.specs.calls.IndexCalls.{entriesInside, entriesCauses, indexBytes, wrongIndex, givenCauses}
+use Rattle.model.specs.calls.IndexCalls.{entriesInside, entriesCauses, indexBytes, givenCauses}
 use Rattle.model.proofs.keys.Key.{both, prefix-refl, prefix-is-take}
 use Rattle.model.proofs.calls.Refusals.{after, none-here, none-later, none-before, none-after, none-paired, paired-none}
 use Rattle.model.proofs.calls.TableCalls.{either-fails, causes-wf, causes-wrong}

@@ -27,7 +27,7 @@ use Rattle.model.proofs.records.Records.{elements-encodeAll}
 use Rattle.model.proofs.tables.Routing.{wf-all-short}
 use Rattle.model.proofs.cuts.Cuts.{split-left-bounded, split-right-bounded}
 use Rattle.model.proofs.cuts.Sides.{split-wf, split-most}
-use Rattle.model.proofs.buckets.Entries.{length-encodeBucket, entries-encodeBucket}
+use Rattle.model.proofs.buckets.Entries.{encode-append, length-encodeBucket, entries-encodeBucket}
 use Rattle.model.proofs.buckets.Below.{only-most, below-from, below-take, from-drop}
 use Rattle.model.proofs.buckets.IndexBytes.{length-encodeIndex, index-count}
 use Rattle.model.proofs.buckets.Index.{rise-take, rise-drop}
@@ -37,7 +37,7 @@ use Rattle.model.proofs.calls.TableCalls.{causes-most}
 use Rattle.model.proofs.calls.BucketCalls.{bucket-encode, bucket-sized, bucket-count, bucket-most, written-bucket}
 use Rattle.model.proofs.calls.WrittenTables.{wf-causes}
 use Rattle.model.proofs.calls.IndexCauses.{entries-pivots, entries-bucket, entries-wf, entries-wrong, entries-outside, entries-rise, entries-inside, none-entries, given-entries}
-use Rattle.model.proofs.calls.IndexCalls.{check-accepts, checked-is-built, encode-append}
+use Rattle.model.proofs.calls.IndexCalls.{check-accepts, checked-is-built}
 
 -- ---- the entries on a side
 

@@ -37,7 +37,7 @@ places-length p l old new = rw (length-encodeIndex, translated-count old new (el
 
 module _ (p l x : List ℕ) (old new : Key) (h : first (givenCauses (tooLong old || tooLong new) false p l x) ≡ none) where
   -- the bucket alone has none of the causes 1 and 2
-  given-rename : first (renameCauses l old new) ≡ none
+  pub given-rename : first (renameCauses l old new) ≡ none
   given-rename =
       let c = given-entries (tooLong old || tooLong new) false p l x h in
       rw (entries-wrong (tooLong old || tooLong new) false p l c) (entries-bucket (tooLong old || tooLong new) false p l c)
