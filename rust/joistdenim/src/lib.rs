@@ -3,9 +3,10 @@
 //! A record has 66 bytes: a length field of two bytes, high byte first, and 64 bytes, zero after
 //! the key. Length 0 to 64 is a key, 65,534 "no edge", 65,535 "max". A key or prefix argument is
 //! lent as its bytes alone. A pair, an old prefix and a new one, has 133 bytes; `Pair` is one as a
-//! value. An entry is a record with a key and a number of four bytes, high byte first. Every call
-//! answers `Ok`, or the first refusal that applies over all arguments, in the order in which the
-//! call names them; a refusal changes no byte of a destination.
+//! value. An entry is a record with a key and a number of four bytes, high byte first; an index has
+//! a place of two bytes, high byte first, for each pivot. Every call answers `Ok`, or the first
+//! refusal that applies over all arguments, in the order in which the call names them; a refusal
+//! changes no byte of a destination.
 //!
 //! ```
 //! let mut dest = [0; 64];
