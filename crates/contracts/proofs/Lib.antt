@@ -2,6 +2,7 @@ pub mod Refusing
 pub mod Lent
 pub mod CutsLent
 pub mod LongRefused
+pub mod ListsLent
 pub mod Tests
 pub mod bounded_pivots
 pub mod translation_lib

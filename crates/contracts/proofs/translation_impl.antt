@@ -4,4 +4,5 @@ pub mod Translation
 pub mod Pairs
 pub mod Renaming
 pub mod Buckets
+pub mod BucketLists
 pub mod ParentChild

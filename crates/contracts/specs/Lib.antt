@@ -1,3 +1,4 @@
 pub mod Refuses
 pub mod BoundedPivots
 pub mod Translation
+pub mod BucketLists

@@ -6,4 +6,5 @@ pub mod IndexBytes
 pub mod Index
 pub mod SlotBuckets
 pub mod IndexCuts
+pub mod CutSlots
 pub mod IndexTranslation

@@ -82,7 +82,7 @@ module _ (l : List ℕ) (p q : Key) (d : List ℕ) where
   translation-impl-392 n h = renamed-passes l p q d n h
 
 -- neither 8 nor 10
-neither : (a : Bool) (m n : ℕ) → not (not a || ltb n m) ≡ (a && leb m n)
+pub neither : (a : Bool) (m n : ℕ) → not (not a || ltb n m) ≡ (a && leb m n)
 neither false m n = refl
 neither true m n = ⊎-elim (λ h. rw (le-ltb n m h, le-leb m n h)) (λ h. rw (lt-ltb n m h, lt-leb m n h)) (le-or-lt m n)
 

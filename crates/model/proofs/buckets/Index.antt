@@ -40,7 +40,7 @@ only-within test then f (e ∷ b) = go (test e) (then e) refl (f e) (only-within
     go false false k g h = h
 
 -- those that pass both tests are those of the one that pass the other
-only-both : (test then : Entry → Bool) (b : Bucket) → only (λ (e : Entry). test e && then e) b ≡ only then (only test b)
+pub only-both : (test then : Entry → Bool) (b : Bucket) → only (λ (e : Entry). test e && then e) b ≡ only then (only test b)
 unfolding only
 only-both test then [] = refl
 only-both test then (e ∷ b) = go (test e) (only-both test then b)
@@ -51,7 +51,7 @@ only-both test then (e ∷ b) = go (test e) (only-both test then b)
     go false h = h
 
 -- tests that agree on all entries are passed by the same
-only-alike : (test then : Entry → Bool) (b : Bucket) → ((i : ℕ) (d : Entry) → i < length b → test (getD b i d) ≡ then (getD b i d)) → only test b ≡ only then b
+pub only-alike : (test then : Entry → Bool) (b : Bucket) → ((i : ℕ) (d : Entry) → i < length b → test (getD b i d) ≡ then (getD b i d)) → only test b ≡ only then b
 unfolding only
 only-alike test then [] f = refl
 only-alike test then (e ∷ b) f = rw (f 0 e (omega arith), only-alike test then b (λ i d h. f (suc i) d (omega arith)))
