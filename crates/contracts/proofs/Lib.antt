@@ -3,6 +3,7 @@ pub mod Lent
 pub mod CutsLent
 pub mod LongRefused
 pub mod ListsLent
+pub mod ListsLeft
 pub mod Tests
 pub mod bounded_pivots
 pub mod translation_lib

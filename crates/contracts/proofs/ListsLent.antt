@@ -12,37 +12,28 @@ use lib.Seq.{take-append-seam, drop-append-seam, take-at, drop-at}
 use Rattle.model.specs.declared.Refusal.the-variants.{Shape, Malformed, OutOfRange, TooLong, NoRoom, WrongIndex}
 use Rattle.model.specs.declared.Answer.the-variants as answers
 use Rattle.model.specs.declared.Decided.the-variants as decided
-use Rattle.model.specs.keys.Key.{Key, maxLen, tooLong}
+use Rattle.model.specs.keys.Key.{Key, tooLong}
 use Rattle.model.specs.records.Record.{records, elements}
-use Rattle.model.specs.tables.Tables.{maxPivots, all, IsStrictlySorted, WFPivots}
-use Rattle.model.specs.cuts.Sides.{inside}
-use Rattle.model.specs.buckets.Bucket.{Bucket, entrySize, entryBytes, entries, entriesRise, TranslateBucket, TranslateBuckets}
-use Rattle.model.specs.buckets.Index.{slotBuckets, together, placesFrom, TranslateIndex, placeSize, places}
+use Rattle.model.specs.tables.Tables.{maxPivots, all, IsStrictlySorted}
+use Rattle.model.specs.buckets.Bucket.{Bucket, entrySize, entryBytes, entries, TranslateBucket, TranslateBuckets}
+use Rattle.model.specs.buckets.Index.{slotBuckets, together, placesFrom, placeSize, places}
 use Rattle.model.specs.calls.Refusals.{Cause, _⇒_, outcome, paired, first, answer}
 use Rattle.model.specs.calls.KeyCalls.{noRoom}
 use Rattle.model.specs.calls.TableCalls.{notPivotCount, pivotsRead, pivotCauses}
 use Rattle.model.specs.calls.BucketCalls.{notEntryCount, entriesRead, bucketCauses, newBucket, neededBytes, bucketLong, bucketFull, shortEntry, renameCauses, translateBucketCauses, translateBucketAnswer, willFitAnswer}
-use Rattle.model.specs.calls.CutCalls.{cutPivots}
-use Rattle.model.specs.calls.IndexCalls.{entriesInside, entriesCauses, indexBytes, wrongIndex, givenCauses, cutEntries, cutIndexCauses, cutIndexAnswer}
+use Rattle.model.specs.calls.IndexCalls.{entriesCauses, indexBytes, wrongIndex, givenCauses}
 use Rattle.model.specs.calls.IndexCalls.{translateIndexCauses, translateIndexAnswer}
 use Rattle.model.proofs.Lists.{all-append}
 use Rattle.model.proofs.keys.Key.{both}
 use Rattle.model.proofs.keys.Order.{refuted}
-use Rattle.model.proofs.records.Records.{elements-encodeAll}
-use Rattle.model.proofs.tables.Routing.{wf-sorted, wf-count, wf-all-short}
-use Rattle.model.proofs.cuts.Sides.{split-wf}
+use Rattle.model.proofs.tables.Routing.{wf-sorted, wf-count}
 use Rattle.model.proofs.buckets.IndexBytes.{places-encodeIndex}
-use Rattle.model.proofs.buckets.SlotBuckets.{slots-count, slots-together, slots-places, renamed-together, translated-together, translated-count, translated-first, translated-last, translated-places}
-use Rattle.model.proofs.buckets.CutSlots.{slots-alone}
-use Rattle.model.proofs.buckets.IndexTranslation.{translated-rises}
+use Rattle.model.proofs.buckets.SlotBuckets.{slots-count, slots-together, slots-places, renamed-together}
 use Rattle.model.proofs.calls.Refusals.{accepted, none-here, none-later, none-before, none-after, not-fails, or-left, or-right}
-use Rattle.model.proofs.calls.BucketCalls.{renamed-reads, renamed-passes, yes-accepted}
-use Rattle.model.proofs.calls.IndexCauses.{entries-wf, entries-wrong, entries-outside, entries-rise, entries-inside, given-entries, given-index, same-bytes}
-use Rattle.model.proofs.calls.IndexCalls.{check-none}
-use Rattle.model.proofs.calls.IndexCuts.{cut-reads, cut-checks}
-use Rattle.model.proofs.calls.TranslatedIndex.{translate-bucket-answers, translate-bucket-leaves, translate-rises, translate-places}
+use Rattle.model.proofs.calls.BucketCalls.{yes-accepted}
+use Rattle.model.proofs.calls.IndexCauses.{entries-wf, entries-inside, given-entries, given-index, same-bytes}
 use Rattle.contracts.specs.Refuses.{RefusesAt, Refuses}
-use Rattle.contracts.specs.BucketLists.{TranslateBucketsWillFit, Inv, ILseq, InvLseq, CutsIndex, TranslatesIndex}
+use Rattle.contracts.specs.BucketLists.{TranslateBucketsWillFit, Inv, ILseq}
 use Rattle.contracts.proofs.Refusing.{refuses-at, refuses-unless, clause-refused, more-refused, call-refuses, too-many}
 use Rattle.contracts.proofs.Lent.{go-on}
 
@@ -50,10 +41,10 @@ use Rattle.contracts.proofs.Lent.{go-on}
 
 -- pivots and a bucket without the causes 1, 2, 3, 14 and 5
 module _ (wrong outside : Bool) (p l : List ℕ) (h : first (entriesCauses wrong outside p l) ≡ none) where
-  sorted : IsStrictlySorted (elements p) ≡ true
+  pub sorted : IsStrictlySorted (elements p) ≡ true
   sorted = wf-sorted (elements p) (entries-wf wrong outside p l h)
 
-  some-pivot : 0 < length (elements p)
+  pub some-pivot : 0 < length (elements p)
   some-pivot = omega (arith, wf-count (elements p) (entries-wf wrong outside p l h))
 
   -- the bucket and the index that belongs to it hold the slots' buckets
@@ -214,90 +205,3 @@ module _ (p l x : List ℕ) (old new : Key) (db dx : List ℕ) (blist : List Buc
       let f = not-false (all shortEntry (newBucket l old new)) (none-here (bucketLong l old new) TooLong _ c) in
       let r = ltb-false (length db) (neededBytes l old new) (none-here (bucketFull l old new (length db)) NoRoom [] (none-later (bucketLong l old new) TooLong _ c)) in
       (together-fits old new blist (rw n at f), rw n at r)
-
--- ---- what the calls leave
-
--- an accepted translation
-module _ (p l x : List ℕ) (old new : Key) (l′ x′ : List ℕ) (t : TranslatesIndex p l x old new l′ x′) where
-  uncaused : first (entriesCauses (tooLong old || tooLong new) false p l) ≡ none
-  uncaused =
-      given-entries (tooLong old || tooLong new) false p l x
-      (none-before (givenCauses (tooLong old || tooLong new) false p l x) _
-      (accepted (translateIndexCauses p l x old new (t .entriesTo) (t .placesTo)) (length (newBucket l old new)) (translateIndexAnswer p l x old new (t .entriesTo) (t .placesTo)) refl (t .total) (t .answered)))
-
-  table-sorted : IsStrictlySorted (elements p) ≡ true
-  table-sorted = sorted (tooLong old || tooLong new) false p l uncaused
-
-  table-some : 0 < length (elements p)
-  table-some = some-pivot (tooLong old || tooLong new) false p l uncaused
-
-  bucket-inside : entriesInside (elements p) (entries l) ≡ true
-  bucket-inside = entries-inside (tooLong old || tooLong new) false p l uncaused
-
-  bucket-rises : entriesRise (entries l) ≡ true
-  bucket-rises = entries-rise (tooLong old || tooLong new) false p l uncaused
-
-  reads : entries l′ ≡ newBucket l old new
-  reads =
-      rw (t .bucket, translate-bucket-leaves p l x old new (t .entriesTo) (t .placesTo) (t .total) (t .answered))
-      (renamed-reads l old new (t .entriesTo) (t .total) (translate-bucket-answers p l x old new (t .entriesTo) (t .placesTo) (t .total) (t .answered)))
-
-  -- leaves the slots' buckets, translated
-  pub list-translated : ILseq l′ x′ (TranslateBuckets (slotBuckets (elements p) (entries l)) old new)
-  list-translated =
-      record {
-        bucket = reads ∙ sym (translated-together old new (elements p) (entries l) table-sorted table-some bucket-inside);
-        index = t .index ∙ translate-places p l x old new (t .entriesTo) (t .placesTo) (t .total) (t .answered);
-      }
-
-  says : places x′ ≡ TranslateIndex (elements p) (entries l) old new
-  says = rw (list-translated .index, translated-places old new (elements p) (entries l) table-sorted table-some bucket-inside bucket-rises) (places-encodeIndex (TranslateIndex (elements p) (entries l) old new))
-
-  -- by a table of two pivots there is one
-  pub list-alone : length (elements p) ≡ 2 → slotBuckets (elements p) (entries l) ≡ entries l ∷ []
-  list-alone n = slots-alone (elements p) (entries l) table-sorted n bucket-inside
-
-  -- and they are a bucket and places again
-  pub list-passes : InvLseq l′ x′ (length (slotBuckets (elements p) (entries l)))
-  list-passes =
-      let n = slots-count (elements p) (entries l) in
-      let b = translate-bucket-answers p l x old new (t .entriesTo) (t .placesTo) (t .total) (t .answered) in
-      record {
-        bucket = rw (t .bucket, translate-bucket-leaves p l x old new (t .entriesTo) (t .placesTo) (t .total) (t .answered)) (renamed-passes l old new (t .entriesTo) (t .total) b);
-        rises = rw (t .bucket) (translate-rises p l x old new (t .entriesTo) (t .placesTo) (t .total) (t .answered));
-        count = rw (says, n) (translated-count old new (elements p) (entries l) ∙ omega (arith, table-some));
-        begins = rw says (translated-first old new (elements p) (entries l) table-sorted table-some bucket-inside);
-        ends = rw (says, n, reads) (translated-last old new (elements p) (entries l) table-sorted table-some bucket-inside);
-        climbs = rw (says, n) (λ a c h k. translated-rises (elements p) (entries l) old new bucket-rises table-sorted a c h (omega (arith, table-some)));
-      }
-
--- an accepted cut
-pub record Cut (left : Bool) (p l : List ℕ) (k : Key) (p′ l′ : List ℕ) : Type 0 where
-  pub wf : WFPivots (elements p) ≡ true
-  pub short : length k ≤ maxLen
-  pub cuts : inside left (elements p) k ≡ true
-  pub rises : entriesRise (entries l) ≡ true
-  pub pivots : elements p′ ≡ cutPivots left p k
-  pub bucket : entries l′ ≡ cutEntries left l k
-
-pub cut-made : (left : Bool) (p l x : List ℕ) (k : Key) (p′ l′ x′ : List ℕ) → CutsIndex left p l x k p′ l′ x′ → Cut left p l k p′ l′
-cut-made left p l x k p′ l′ x′ c =
-    let h = given-entries (tooLong k) (not (inside left (elements p) k)) p l x
-    (none-before (givenCauses (tooLong k) (not (inside left (elements p) k)) p l x) _
-    (accepted (cutIndexCauses left p l x k (c .entriesTo) (c .placesTo)) (length (cutEntries left l k)) (cutIndexAnswer left p l x k (c .entriesTo) (c .placesTo)) refl (c .total) (c .answered))) in
-    let w = entries-wf (tooLong k) (not (inside left (elements p) k)) p l h in
-    let s = ltb-false maxLen (length k) (entries-wrong (tooLong k) (not (inside left (elements p) k)) p l h) in
-    let v = not-false (inside left (elements p) k) (entries-outside (tooLong k) (not (inside left (elements p) k)) p l h) in
-    record {
-      wf = w;
-      short = s;
-      cuts = v;
-      rises = entries-rise (tooLong k) (not (inside left (elements p) k)) p l h;
-      pivots = rw (c .pivots) (elements-encodeAll (cutPivots left p k) (wf-all-short (cutPivots left p k) (split-wf (elements p) k w left v s)));
-      bucket = rw (c .bucket) (cut-reads left p l x k (c .entriesTo) (c .placesTo) (c .total) (c .answered));
-    }
-
--- lent what an accepted cut leaves, a call has no cause before 8
-pub cut-given : (left : Bool) (p l x : List ℕ) (k : Key) (p′ l′ x′ : List ℕ) → CutsIndex left p l x k p′ l′ x′ → (wrong : Bool) → wrong ≡ false → first (givenCauses wrong false p′ l′ x′) ≡ none
-cut-given left p l x k p′ l′ x′ c wrong h =
-    rw h (check-none p′ l′ x′ (c .total) (rw (c .pivots, c .bucket, c .index) (cut-checks left p l x k (c .entriesTo) (c .placesTo) (c .total) (c .answered))))

@@ -5,4 +5,5 @@ pub mod Pairs
 pub mod Renaming
 pub mod Buckets
 pub mod BucketLists
+pub mod CutLists
 pub mod ParentChild
