@@ -32,6 +32,7 @@ use Rattle.model.proofs.calls.IndexCalls.{check-none}
 use Rattle.model.proofs.calls.IndexCuts.{cut-reads, cut-checks}
 use Rattle.model.proofs.calls.TranslatedIndex.{translate-bucket-answers, translate-bucket-leaves, translate-rises, translate-places}
 use Rattle.contracts.specs.BucketLists.{ILseq, InvLseq, CutsIndex, TranslatesIndex}
+use Rattle.contracts.proofs.ListsLent.{sorted, some-pivot}
 
 -- ---- what the calls leave
 

@@ -41,9 +41,11 @@ use Rattle.contracts.proofs.Lent.{go-on}
 
 -- pivots and a bucket without the causes 1, 2, 3, 14 and 5
 module _ (wrong outside : Bool) (p l : List ℕ) (h : first (entriesCauses wrong outside p l) ≡ none) where
+  -- the pivots rise
   pub sorted : IsStrictlySorted (elements p) ≡ true
   sorted = wf-sorted (elements p) (entries-wf wrong outside p l h)
 
+  -- and there is one
   pub some-pivot : 0 < length (elements p)
   some-pivot = omega (arith, wf-count (elements p) (entries-wf wrong outside p l h))
 
