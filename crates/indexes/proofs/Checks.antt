@@ -1,13 +1,13 @@
 -- The ways out of the checks: causes 1, 2, 3, 14 and 5 of pivots and bucket, and 15 of the index.
 use mathlib.Core.Path.{_≡_, refl, sym, ap, _∙_}
 use mathlib.Core.Bool.{Bool, true, false, not, _||_}
-use mathlib.Core.List.{List, [], _∷_}
+use mathlib.Core.List.{List, [], _∷_, _++_, append-assoc}
 use mathlib.Core.Option.{none}
 use Prim.Native.Nat.{ℕ, _*_, _/_, _≤_, _<_}
 use native.Mathlib.Omega.{arith}
 use borrow.Author.Tests.{not-false, ne-eqb, eq-eqb, lt-ltb, le-ltb, ltb-false, le-leb}
 use lib.ListN.{length, take, length-append}
-use mir.Syntax.{w16}
+use mir.Syntax.{w16, w64}
 use mir.Val.{Fits}
 use Rattle.model.specs.declared.Refusal.{Refusal}
 use Rattle.model.specs.declared.Refusal.the-variants.{OutOfRange, NoRoom, EntriesUnsorted, WrongIndex}
@@ -21,21 +21,22 @@ use Rattle.model.specs.buckets.Bucket.{entrySize, entryBytes, entries, entriesR
 use Rattle.model.specs.buckets.Index.{entriesBelow, placeSize}
 use Rattle.model.specs.inner.Written.{clipped}
 use Rattle.model.specs.calls.Refusals.{_⇒_, outcome, paired, first, answer, over}
+use Rattle.model.specs.calls.KeyCalls.{noRoom}
 use Rattle.model.specs.calls.TableCalls.{pivotCauses}
 use Rattle.model.specs.calls.BucketCalls.{entriesRead, bucketCauses}
 use Rattle.model.specs.calls.IndexCalls.{entriesInside, entriesCauses, indexBytes, wrongIndex, givenCauses, buildIndexCauses}
 use Rattle.model.proofs.Lists.{take-over, clipped-all}
 use Rattle.model.proofs.records.Record.{length-encode, element-encode, reading-key}
-use Rattle.model.proofs.calls.Refusals.{here, later, done, accepted, value-is, refused, refused-first, after, passed, paired-none}
-use Rattle.model.proofs.calls.TableCalls.{length-elements, causes-wf, causes-most}
+use Rattle.model.proofs.calls.Refusals.{here, later, done, accepted, value-is, refused, refused-first, after, passed, none-here, none-before, none-after, paired-none}
+use Rattle.model.proofs.calls.TableCalls.{length-elements, causes-wrong, causes-wf, causes-most}
 use Rattle.model.proofs.calls.BucketCalls.{bucket-read}
-use Rattle.model.proofs.calls.IndexCauses.{entries-alone, entries-pivots, entries-wrong, entries-bucket, entries-rise, given-entries}
+use Rattle.model.proofs.calls.IndexCauses.{entries-wrong, entries-bucket, entries-rise, given-entries}
 use Rattle.model.proofs.buckets.IndexBytes.{length-encodeIndex, index-count}
 use Rattle.keys.specs.Padded.{Padded}
 use Rattle.buckets.proofs.Places.{length-entries}
 use Rattle.refusals.specs.Earlier.{earlier}
 use Rattle.refusals.proofs.InStep.{rising, inStep, told-earlier}
-use Rattle.indexes.specs.Checked.{Rising, Checked}
+use Rattle.indexes.specs.Checked.{risingCauses, Rising, Checked}
 
 -- ---- causes 1 to 3
 
@@ -54,80 +55,132 @@ module _ (wrong : Bool) (p l : List ℕ) where
 pub rising-read : (l : List ℕ) → Rising l → entriesRead (entryBytes l) ≡ true
 rising-read l w = bucket-read false l (w .read)
 
--- ---- causes 14 and 5 behind them
+-- ---- cause 14 behind them
 
-module _ (wrong outside : Bool) (p l : List ℕ) (a : Answer) (m : ℕ) (e : a ≡ answer (paired (pivotCauses false wrong p) (bucketCauses false l)) m) where
+module _ (wrong : Bool) (p l : List ℕ) (a : Answer) (m : ℕ) (e : a ≡ answer (paired (pivotCauses false wrong p) (bucketCauses false l)) m) where
   -- a refusal of both is handed on
-  pub both-refuse : (r : Refusal) (x : Answer) (v : ℕ) → a ≡ Refused r → x ≡ Refused r → x ≡ answer (entriesCauses wrong outside p l) v
-  unfolding entriesCauses
+  pub both-refuse : (r : Refusal) (x : Answer) (v : ℕ) → a ≡ Refused r → x ≡ Refused r → x ≡ answer (risingCauses wrong p l) v
+  unfolding risingCauses
   both-refuse r x v f g = refused-first Refused (Value v) x (paired (pivotCauses false wrong p) (bucketCauses false l)) _ r (refused (paired (pivotCauses false wrong p) (bucketCauses false l)) m a e r f) g
 
   module _ (n : ℕ) (f : a ≡ Value n) where
     none-of-both : first (paired (pivotCauses false wrong p) (bucketCauses false l)) ≡ none
     none-of-both = accepted (paired (pivotCauses false wrong p) (bucketCauses false l)) m a e n f
 
-    bucket-none : first (bucketCauses false l) ≡ none
-    bucket-none = paired-none (pivotCauses false wrong p) (bucketCauses false l) none-of-both .1
-
-    pub wf-checked : WFPivots (elements p) ≡ true
-    wf-checked = causes-wf false wrong p (paired-none (pivotCauses false wrong p) (bucketCauses false l) none-of-both .0)
-
     pub read-checked : entriesRead (entryBytes l) ≡ true
-    read-checked = bucket-read false l bucket-none
+    read-checked = bucket-read false l (paired-none (pivotCauses false wrong p) (bucketCauses false l) none-of-both .1)
 
-    -- else 14 and 5 decide
+    -- else 14 decides
     module _ (t : Bool) (g : t ≡ entriesRise (entries l)) where
-      then : (x : Answer) (v : ℕ)
-          → x ≡ outcome Refused ((not t ⇒ EntriesUnsorted) ∷ (outside || not (entriesInside (elements p) (entries l)) ⇒ OutOfRange) ∷ []) (Value v)
-          → x ≡ answer (entriesCauses wrong outside p l) v
-      unfolding entriesCauses
-      then x v h = after Refused (Value v) x (paired (pivotCauses false wrong p) (bucketCauses false l)) _ none-of-both (rw (← g) h)
+      pub unsorted : not t ≡ true → (v : ℕ) → Refused EntriesUnsorted ≡ answer (risingCauses wrong p l) v
+      unfolding risingCauses
+      unsorted k v = after Refused (Value v) (Refused EntriesUnsorted) (paired (pivotCauses false wrong p) (bucketCauses false l)) _ none-of-both (unfold outcome in (rw (← g, k)))
 
-      pub unsorted : not t ≡ true → (v : ℕ) → Refused EntriesUnsorted ≡ answer (entriesCauses wrong outside p l) v
-      unsorted k v = then (Refused EntriesUnsorted) v (unfold outcome in (rw k))
+      pub rises : not t ≡ false → a ≡ answer (risingCauses wrong p l) m
+      unfolding risingCauses
+      rises k =
+          after Refused (Value m) a (paired (pivotCauses false wrong p) (bucketCauses false l)) _ none-of-both
+          (unfold outcome in (rw (← g, k) (f ∙ ap Value (value-is (paired (pivotCauses false wrong p) (bucketCauses false l)) m a e n f))))
 
-      module _ (k : not t ≡ false) where
-        pub rises : Rising l
-        rises = record { read = bucket-none; rise = sym g ∙ not-false t k }
+-- ---- causes 5 and 15 behind that
 
-        pub key-outside : outside ≡ true → (v : ℕ) → Refused OutOfRange ≡ answer (entriesCauses wrong outside p l) v
-        key-outside o v = then (Refused OutOfRange) v (unfold outcome in (rw (k, o)))
+-- the lists of causes in turn
+entries-list : (wrong outside : Bool) (p l : List ℕ)
+    → entriesCauses wrong outside p l ≡ risingCauses wrong p l ++ ((outside || not (entriesInside (elements p) (entries l)) ⇒ OutOfRange) ∷ [])
+unfolding entriesCauses risingCauses
+entries-list wrong outside p l = sym (append-assoc (paired (pivotCauses false wrong p) (bucketCauses false l)) _ _)
 
-        module _ (o : outside ≡ false) (u : Bool) (h : u ≡ not (entriesInside (elements p) (entries l))) where
-          pub entry-outside : u ≡ true → (v : ℕ) → Refused OutOfRange ≡ answer (entriesCauses wrong outside p l) v
-          entry-outside i v = then (Refused OutOfRange) v (unfold outcome in (rw (k, o, ← h, i)))
+given-list : (wrong outside : Bool) (p l x : List ℕ)
+    → givenCauses wrong outside p l x ≡ risingCauses wrong p l ++ ((outside || not (entriesInside (elements p) (entries l)) ⇒ OutOfRange) ∷ (wrongIndex p l x ⇒ WrongIndex) ∷ [])
+unfolding givenCauses
+given-list wrong outside p l x = rw (entries-list wrong outside p l) (append-assoc (risingCauses wrong p l) _ _)
 
-          pub all-checked : u ≡ false → Value (length l / entrySize) ≡ answer (entriesCauses wrong outside p l) (length (entries l))
-          all-checked i = then (Value (length l / entrySize)) (length (entries l)) (unfold outcome in (rw (k, o, ← h, i, length-entries l)))
+module _ (wrong : Bool) (p l : List ℕ) (a : Answer) (m : ℕ) (e : a ≡ answer (risingCauses wrong p l) m) (n : ℕ) (f : a ≡ Value n) where
+  none-of-rising : first (risingCauses wrong p l) ≡ none
+  none-of-rising = accepted (risingCauses wrong p l) m a e n f
 
--- ---- the room of an index that is built
+  both-none : first (paired (pivotCauses false wrong p) (bucketCauses false l)) ≡ none
+  unfolding risingCauses
+  both-none = none-before (paired (pivotCauses false wrong p) (bucketCauses false l)) _ none-of-rising
 
-module _ (p l d : List ℕ) (a : Answer) (m : ℕ) (e : a ≡ answer (entriesCauses false false p l) m) (n : ℕ) (f : a ≡ Value n) where
-  no-cause : first (entriesCauses false false p l) ≡ none
-  no-cause = accepted (entriesCauses false false p l) m a e n f
+  pivots-none : first (pivotCauses false wrong p) ≡ none
+  pivots-none = paired-none (pivotCauses false wrong p) (bucketCauses false l) both-none .0
 
-  pub room-for : length p / 66 * 2 ≤ length d → length (elements p) * placeSize ≤ length d
-  room-for h = omega (arith, length-elements p)
+  pub wf-checked : WFPivots (elements p) ≡ true
+  wf-checked = causes-wf false wrong p pivots-none
 
-  -- a refusal of it, or what is written
-  module _ {A : Type 0} (g : Refusal → A) (v x : A) where
-    pub no-room : length d < length p / 66 * 2 → x ≡ g NoRoom → x ≡ outcome g (buildIndexCauses p l d) v
-    no-room h k =
-        let o : length d < length (elements p) * placeSize = omega (arith, length-elements p) in
-        after g v x (entriesCauses false false p l) _ no-cause (here g v x _ NoRoom [] (lt-ltb (length d) (length (elements p) * placeSize) o) k)
+  pub bucket-rises : Rising l
+  unfolding risingCauses
+  bucket-rises =
+      record {
+        read = paired-none (pivotCauses false wrong p) (bucketCauses false l) both-none .1;
+        rise = not-false (entriesRise (entries l)) (none-here _ EntriesUnsorted [] (none-after (paired (pivotCauses false wrong p) (bucketCauses false l)) _ none-of-rising));
+      }
 
-    pub room : length p / 66 * 2 ≤ length d → x ≡ v → x ≡ outcome g (buildIndexCauses p l d) v
-    room h k = after g v x (entriesCauses false false p l) _ no-cause (later g v x _ NoRoom [] (le-ltb (length d) (length (elements p) * placeSize) (room-for h)) (done g v x k))
+  -- pivots and bucket are checked
+  pub checked : Checked p l
+  checked = record { pivots = rw (causes-wrong false wrong p pivots-none) at pivots-none; bucket = bucket-rises }
 
-  -- it answers the count
-  pub counted : a ≡ Value m
-  counted = f ∙ ap Value (value-is (entriesCauses false false p l) m a e n f)
+  -- it is the count of pivots that is answered
+  pub pivots-counted : n ≡ m
+  pivots-counted = value-is (risingCauses wrong p l) m a e n f
+
+  -- at most 64
+  pub count-fits : m ≡ length p / 66 → Fits w64 (n * 2)
+  count-fits c = record { fits = omega (arith, pivots-counted, length-elements p, causes-most false wrong p pivots-none) }
+
+  -- the places of so many pivots have room
+  pub room-for : (d : List ℕ) → m ≡ length p / 66 → n * 2 ≤ length d → length (elements p) * placeSize ≤ length d
+  room-for d c h = omega (arith, pivots-counted, length-elements p)
+
+pub wf-of-checked : (p l : List ℕ) → Checked p l → WFPivots (elements p) ≡ true
+wf-of-checked p l h = causes-wf false false p (h .pivots)
+
+pub rising-of-checked : (p l : List ℕ) → Checked p l → Rising l
+rising-of-checked p l h = h .bucket
+
+-- 5 of another argument comes with that of the entries
+pub told-outside : (outside b : Bool) → outside ≡ true → true ≡ (outside || b)
+told-outside outside b h = rw h
+
+pub told-inside : (outside t b : Bool) → outside ≡ false → t ≡ b → t ≡ (outside || b)
+told-inside outside t b h g = rw h g
+
+-- ---- an index that is built
+
+module _ (p l d : List ℕ) (a : Answer) (m : ℕ) (e : a ≡ answer (risingCauses false p l) m) {A : Type 0} (g : Refusal → A) (v x : A) where
+  pub build-refuses : (r : Refusal) → a ≡ Refused r → x ≡ g r → x ≡ outcome g (buildIndexCauses p l d) v
+  build-refuses r f k = rw (entries-list false false p l, append-assoc (risingCauses false p l) _ _) (refused-first g v x (risingCauses false p l) _ r (refused (risingCauses false p l) m a e r f) k)
+
+  module _ (n : ℕ) (f : a ≡ Value n) (t : Bool) (h : t ≡ not (entriesInside (elements p) (entries l))) where
+    then-build : x ≡ outcome g ((t ⇒ OutOfRange) ∷ (noRoom (length (elements p) * placeSize) d ⇒ NoRoom) ∷ []) v → x ≡ outcome g (buildIndexCauses p l d) v
+    then-build k =
+        rw (entries-list false false p l, append-assoc (risingCauses false p l) _ _)
+        (after g v x (risingCauses false p l) _ (none-of-rising false p l a m e n f) (rw (← h) k))
+
+    pub build-outside : t ≡ true → x ≡ g OutOfRange → x ≡ outcome g (buildIndexCauses p l d) v
+    build-outside i k = then-build (here g v x t OutOfRange _ i k)
+
+    -- the room goes by the count of pivots
+    counts : m ≡ length p / 66 → n ≡ length (elements p)
+    counts c = omega (arith, pivots-counted false p l a m e n f, length-elements p)
+
+    pub no-room : m ≡ length p / 66 → t ≡ false → length d < n * 2 → x ≡ g NoRoom → x ≡ outcome g (buildIndexCauses p l d) v
+    no-room c i o k = then-build (later g v x t OutOfRange _ i (here g v x _ NoRoom [] (lt-ltb (length d) (length (elements p) * placeSize) (omega (arith, counts c))) k))
+
+    pub room : m ≡ length p / 66 → t ≡ false → n * 2 ≤ length d → x ≡ v → x ≡ outcome g (buildIndexCauses p l d) v
+    room c i o k = then-build (later g v x t OutOfRange _ i (later g v x _ NoRoom [] (le-ltb (length d) (length (elements p) * placeSize) (omega (arith, counts c))) (done g v x k)))
+
+-- it answers the count of entries
+pub build-counted : (p l d : List ℕ) (a : Answer) (m : ℕ) → a ≡ answer (risingCauses false p l) m → (n : ℕ) → a ≡ Value n → (t : Bool) → t ≡ not (entriesInside (elements p) (entries l))
+    → m ≡ length p / 66 → t ≡ false → n * 2 ≤ length d → Value (length l / entrySize) ≡ answer (buildIndexCauses p l d) (length (entries l))
+build-counted p l d a m e n f t h c i o = room p l d a m e Refused (Value (length (entries l))) (Value (length l / entrySize)) n f t h c i o (ap Value (sym (length-entries l)))
 
 -- ---- the index given
 
 -- the places of 64 pivots have 128 bytes
 pub index-most : (p l : List ℕ) → Checked p l → length p / 66 * 2 ≤ 128
-index-most p l h = omega (arith, length-elements p, causes-most false false p (entries-pivots false false p l h))
+index-most p l h = omega (arith, length-elements p, causes-most false false p (h .pivots))
 
 pub index-room : (p l b : List ℕ) → Checked p l → length b ≡ 128 → length (elements p) * placeSize ≤ length b
 index-room p l b h e = omega (arith, length-elements p, index-most p l h)
@@ -142,7 +195,7 @@ module _ (p l x : List ℕ) (h : Checked p l) where
   built-inside b d e = rw (e, length-append) (omega (arith, index-length))
 
   -- one of another length is wrong
-  pub other-length : (length x ≡ length p / 66 * 2 → ⊥) → not false ≡ wrongIndex p l x
+  pub other-length : (length x ≡ length p / 66 * 2 → ⊥) → true ≡ wrongIndex p l x
   other-length k = rw (ne-eqb (length x) (length (indexBytes p l)) (λ e. k (omega (arith, index-length))))
 
   -- one as long is right where it begins what is built
@@ -151,28 +204,24 @@ module _ (p l x : List ℕ) (h : Checked p l) where
       let w : take (length p / 66 * 2) b ≡ indexBytes p l = rw (e, ← index-length) (take-over (indexBytes p l) d) in
       rw (eq-eqb (length x) (length (indexBytes p l)) (omega (arith, index-length)), g, w)
 
-module _ (wrong outside : Bool) (p l x : List ℕ) (a : Answer) (m : ℕ) (e : a ≡ answer (entriesCauses wrong outside p l) m) where
+module _ (wrong outside : Bool) (p l x : List ℕ) (a : Answer) (m : ℕ) (e : a ≡ answer (risingCauses wrong p l) m) where
   -- a refusal of pivots and bucket is handed on
-  pub entries-refuse : (r : Refusal) (y : Answer) (v : ℕ) → a ≡ Refused r → y ≡ Refused r → y ≡ answer (givenCauses wrong outside p l x) v
-  unfolding givenCauses
-  entries-refuse r y v f g = refused-first Refused (Value v) y (entriesCauses wrong outside p l) _ r (refused (entriesCauses wrong outside p l) m a e r f) g
+  pub rising-refuses : (r : Refusal) (y : Answer) (v : ℕ) → a ≡ Refused r → y ≡ Refused r → y ≡ answer (givenCauses wrong outside p l x) v
+  rising-refuses r y v f g = rw (given-list wrong outside p l x) (refused-first Refused (Value v) y (risingCauses wrong p l) _ r (refused (risingCauses wrong p l) m a e r f) g)
 
-  module _ (n : ℕ) (f : a ≡ Value n) where
-    none-of-entries : first (entriesCauses wrong outside p l) ≡ none
-    none-of-entries = accepted (entriesCauses wrong outside p l) m a e n f
+  -- else 5 and then 15 decide
+  module _ (n : ℕ) (f : a ≡ Value n) (s t : Bool) (g : s ≡ (outside || not (entriesInside (elements p) (entries l)))) (h : t ≡ wrongIndex p l x) where
+    then-given : (y : Answer) (v : ℕ) → y ≡ outcome Refused ((s ⇒ OutOfRange) ∷ (t ⇒ WrongIndex) ∷ []) (Value v) → y ≡ answer (givenCauses wrong outside p l x) v
+    then-given y v k = rw (given-list wrong outside p l x) (after Refused (Value v) y (risingCauses wrong p l) _ (none-of-rising wrong p l a m e n f) (rw (← g, ← h) k))
 
-    -- pivots and bucket are checked
-    pub checked : Checked p l
-    checked = entries-alone wrong outside p l none-of-entries
+    pub given-outside : s ≡ true → (v : ℕ) → Refused OutOfRange ≡ answer (givenCauses wrong outside p l x) v
+    given-outside i v = then-given (Refused OutOfRange) v (unfold outcome in (rw i))
 
-    module _ (t : Bool) (g : not t ≡ wrongIndex p l x) where
-      pub index-wrong : not t ≡ true → (v : ℕ) → Refused WrongIndex ≡ answer (givenCauses wrong outside p l x) v
-      unfolding givenCauses
-      index-wrong k v = after Refused (Value v) (Refused WrongIndex) (entriesCauses wrong outside p l) _ none-of-entries (unfold outcome in (rw (← g, k)))
+    pub given-other : s ≡ false → t ≡ true → (v : ℕ) → Refused WrongIndex ≡ answer (givenCauses wrong outside p l x) v
+    given-other i j v = then-given (Refused WrongIndex) v (unfold outcome in (rw (i, j)))
 
-      pub index-right : not t ≡ false → a ≡ answer (givenCauses wrong outside p l x) m
-      unfolding givenCauses
-      index-right k = after Refused (Value m) a (entriesCauses wrong outside p l) _ none-of-entries (unfold outcome in (rw (← g, k) (f ∙ ap Value (value-is (entriesCauses wrong outside p l) m a e n f))))
+    pub given-right : s ≡ false → t ≡ false → Value (length l / entrySize) ≡ answer (givenCauses wrong outside p l x) (length (entries l))
+    given-right i j = then-given (Value (length l / entrySize)) (length (entries l)) (unfold outcome in (rw (i, j, length-entries l)))
 
 -- ---- a key beside them
 

@@ -21,9 +21,8 @@ use Rattle.model.proofs.Lists.{all-inside, into-over, length-over, lent-on, res
 use Rattle.model.proofs.records.InTurn.{written, turn-start, turn-end, turn-next}
 use Rattle.model.proofs.tables.Places.{sorted-lte}
 use Rattle.model.proofs.tables.Routing.{wf-count, wf-sorted}
-use Rattle.model.proofs.calls.TableCalls.{length-records, length-elements, record-length, element-at, causes-read, read-elements}
+use Rattle.model.proofs.calls.TableCalls.{length-records, length-elements, record-length, element-at, causes-read, read-elements, causes-wf}
 use Rattle.model.proofs.calls.BucketCalls.{bucket-most, bucket-count}
-use Rattle.model.proofs.calls.IndexCauses.{entries-pivots, entries-wf, entries-bucket, entries-rise}
 use Rattle.model.proofs.buckets.Below.{below-most}
 use Rattle.model.proofs.buckets.Index.{below-rises}
 use Rattle.model.proofs.buckets.IndexBytes.{aPlace, all-places, length-place, index-count, index-at}
@@ -39,7 +38,7 @@ pub record Merged (p l d₀ d : List ℕ) (below i : ℕ) : Type 0 where
 
 -- a checked bucket rises
 pub checked-rising : (p l : List ℕ) → Checked p l → Rising l
-checked-rising p l h = record { read = entries-bucket false false p l h; rise = entries-rise false false p l h }
+checked-rising p l h = h .bucket
 
 module _ (p l d₀ : List ℕ) (h : Checked p l) (m : length (elements p) * 2 ≤ length d₀) where
   count : length (Index (elements p) (entries l)) ≡ length p / 66
@@ -47,7 +46,7 @@ module _ (p l d₀ : List ℕ) (h : Checked p l) (m : length (elements p) * 2 �
 
   -- there is a pivot
   pub some-pivot : 1 ≤ length p / 66
-  some-pivot = omega (arith, length-elements p, wf-count (elements p) (entries-wf false false p l h))
+  some-pivot = omega (arith, length-elements p, wf-count (elements p) (causes-wf false false p (h .pivots)))
 
   pub merge-start : Merged p l d₀ d₀ 0 0
   merge-start = record { within = omega arith; long = refl; near = λ k. omega arith; bytes = turn-start encodePlace (Index (elements p) (entries l)) d₀ }
@@ -70,7 +69,7 @@ module _ (p l d₀ : List ℕ) (h : Checked p l) (m : length (elements p) * 2 �
         pub pivot-padded : Padded r
         pivot-padded =
             rw g
-            (record-length p i k, all-inside (λ (x : List ℕ). elementReading (reading x)) (records p) i [] (omega (arith, k, length-records p)) (read-elements (records p) (causes-read false false p (entries-pivots false false p l h))))
+            (record-length p i k, all-inside (λ (x : List ℕ). elementReading (reading x)) (records p) i [] (omega (arith, k, length-records p)) (read-elements (records p) (causes-read false false p (h .pivots))))
 
         same : element r ≡ pivotAt (elements p) i
         same = rw (g, element-at p i k)
@@ -83,7 +82,7 @@ module _ (p l d₀ : List ℕ) (h : Checked p l) (m : length (elements p) * 2 �
           -- a place is at most 512
           pub place-most : n ≤ 512
           place-most =
-              omega (arith, below-most (element r) (entries l), bucket-most false l (entries-bucket false false p l h), bucket-count false l (entries-bucket false false p l h))
+              omega (arith, below-most (element r) (entries l), bucket-most false l (h .bucket .read), bucket-count false l (h .bucket .read))
 
           pub place-fits : Fits w16 n
           place-fits = record { fits = omega (arith, place-most) }
@@ -100,6 +99,6 @@ module _ (p l d₀ : List ℕ) (h : Checked p l) (m : length (elements p) * 2 �
               record {
                 within = omega arith;
                 long = rw (lent-on, u, length-append, length-over (encodePlace n) (take (length d - i * 2) (drop (i * 2) d)) (omega (arith, z, length-place n refl)), rest, length-drop, length-take-le (i * 2) d place-room) (omega (arith, w .long, place-room));
-                near = λ u′. rw (e, same) (below-rises (pivotAt (elements p) i) (pivotAt (elements p) (i + 1)) (sorted-lte (elements p) i (i + 1) (wf-sorted (elements p) (entries-wf false false p l h)) (omega arith) (omega arith)) (entries l));
+                near = λ u′. rw (e, same) (below-rises (pivotAt (elements p) i) (pivotAt (elements p) (i + 1)) (sorted-lte (elements p) i (i + 1) (wf-sorted (elements p) (causes-wf false false p (h .pivots))) (omega arith) (omega arith)) (entries l));
                 bytes = turn-next encodePlace (Index (elements p) (entries l)) 2 aPlace length-place (all-places (Index (elements p) (entries l))) i (omega (arith, count)) 0 d₀ d v (w .bytes) (rw q u);
               }

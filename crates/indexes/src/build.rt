@@ -1,9 +1,10 @@
 // build_index.
-use crate::check::check_entries;
+use crate::check::check_rising;
+use crate::entry::entries_outside;
 use crate::merge::write_index;
 use model::Answer;
+use model::ENTRY_SIZE;
 use model::PLACE_SIZE;
-use model::RECORD_SIZE;
 use model::Refusal;
 ghost use mathlib.Core.Path.{_≡_};
 ghost use Rattle.model.specs.calls.IndexCalls.{buildIndexAnswer, buildIndexLeaves};
@@ -14,14 +15,16 @@ pub fn build_index(pivots: &[u8], bucket: &[u8], dest: &mut [u8]) -> Answer
     ensures answered { λ r. ⌜ r ≡ buildIndexAnswer (now (pivots .entry)) (now (bucket .entry)) (now (dest .entry)) ⌝ }
     ensures written { λ r. ⌜ now (dest .exit) ≡ buildIndexLeaves (now (pivots .entry)) (now (bucket .entry)) (now (dest .entry)) ⌝ }
 {
-    let checked = check_entries(pivots, bucket, false, false);
-    let Answer::Value(_) = checked else {
+    let checked = check_rising(pivots, bucket, false);
+    let Answer::Value(count) = checked else {
         return checked;
     };
-    let count = pivots.len() / RECORD_SIZE;
+    if entries_outside(pivots, bucket) {
+        return Answer::Refused(Refusal::OutOfRange);
+    }
     if dest.len() < count * PLACE_SIZE {
         return Answer::Refused(Refusal::NoRoom);
     }
     write_index(pivots, bucket, dest);
-    checked
+    Answer::Value(bucket.len() / ENTRY_SIZE)
 }

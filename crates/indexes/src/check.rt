@@ -10,19 +10,19 @@ use model::PLACE_SIZE;
 use model::RECORD_SIZE;
 use model::Refusal;
 ghost use mathlib.Core.Path.{_≡_};
-ghost use mathlib.Core.Bool.{false, not};
+ghost use mathlib.Core.Bool.{false, not, _||_};
 ghost use Prim.Native.Nat.{_/_};
 ghost use lib.ListN.{length};
 ghost use Rattle.model.specs.keys.Key.{tooLong};
 ghost use Rattle.model.specs.keys.Order.{key};
-ghost use Rattle.model.specs.records.Record.{recordSize};
+ghost use Rattle.model.specs.records.Record.{recordSize, elements};
 ghost use Rattle.model.specs.buckets.Bucket.{entries};
 ghost use Rattle.model.specs.buckets.Index.{entriesBelow};
 ghost use Rattle.model.specs.calls.Refusals.{paired, answer};
 ghost use Rattle.model.specs.calls.TableCalls.{pivotCauses};
 ghost use Rattle.model.specs.calls.BucketCalls.{bucketCauses};
-ghost use Rattle.model.specs.calls.IndexCalls.{entriesCauses, wrongIndex, givenCauses, checkIndexAnswer};
-ghost use Rattle.indexes.specs.Checked.{Checked};
+ghost use Rattle.model.specs.calls.IndexCalls.{entriesInside, wrongIndex, givenCauses, checkIndexAnswer};
+ghost use Rattle.indexes.specs.Checked.{risingCauses, Checked};
 
 // Causes 1, 2 and 3 of pivots and bucket, by number over both; else the count of pivots.
 fn check_both(pivots: &[u8], bucket: &[u8], wrong: bool) -> Answer
@@ -33,9 +33,9 @@ fn check_both(pivots: &[u8], bucket: &[u8], wrong: bool) -> Answer
     refusals::earlier(first, second)
 }
 
-// Causes 1, 2, 3, 14 and 5; else the count of entries. The caller says whether another argument has cause 2, or 5.
-pub(crate) fn check_entries(pivots: &[u8], bucket: &[u8], wrong: bool, outside: bool) -> Answer
-    ensures { λ r. ⌜ r ≡ answer (entriesCauses wrong outside (now (pivots .entry)) (now (bucket .entry))) (length (entries (now (bucket .entry)))) ⌝ }
+// Causes 1, 2, 3 and 14; else the count of pivots. The caller says whether another argument has cause 2.
+pub(crate) fn check_rising(pivots: &[u8], bucket: &[u8], wrong: bool) -> Answer
+    ensures { λ r. ⌜ r ≡ answer (risingCauses wrong (now (pivots .entry)) (now (bucket .entry))) (length (now (pivots .entry)) / recordSize) ⌝ }
 {
     let checked = check_both(pivots, bucket, wrong);
     let Answer::Value(_) = checked else {
@@ -44,41 +44,51 @@ pub(crate) fn check_entries(pivots: &[u8], bucket: &[u8], wrong: bool, outside: 
     if !entries_rise(bucket) {
         return Answer::Refused(Refusal::EntriesUnsorted);
     }
-    if outside {
-        return Answer::Refused(Refusal::OutOfRange);
-    }
-    if entries_outside(pivots, bucket) {
-        return Answer::Refused(Refusal::OutOfRange);
-    }
-    Answer::Value(bucket.len() / ENTRY_SIZE)
+    checked
 }
 
-// Whether an index is the one that belongs to checked pivots and bucket.
-fn is_index(pivots: &[u8], bucket: &[u8], index: &[u8]) -> bool
+// Cause 5: whether an entry is outside the table, or another argument, as the caller says.
+fn is_outside(pivots: &[u8], bucket: &[u8], outside: bool) -> bool
     requires { ⌜ Checked (now pivots) (now bucket) ⌝ }
-    ensures { λ r. ⌜ not r ≡ wrongIndex (now (pivots .entry)) (now (bucket .entry)) (now (index .entry)) ⌝ }
+    ensures { λ r. ⌜ r ≡ (outside || not (entriesInside (elements (now (pivots .entry))) (entries (now (bucket .entry))))) ⌝ }
+{
+    if outside {
+        return true;
+    }
+    entries_outside(pivots, bucket)
+}
+
+// Cause 15: whether an index isn't the one that belongs to checked pivots and bucket.
+fn is_other(pivots: &[u8], bucket: &[u8], index: &[u8]) -> bool
+    requires { ⌜ Checked (now pivots) (now bucket) ⌝ }
+    ensures { λ r. ⌜ r ≡ wrongIndex (now (pivots .entry)) (now (bucket .entry)) (now (index .entry)) ⌝ }
 {
     let end = pivots.len() / RECORD_SIZE * PLACE_SIZE;
     if index.len() != end {
-        return false;
+        return true;
     }
     let mut built = [0u8; 128];
     write_index(pivots, bucket, &mut built);
-    scan::is_prefix_by_words(index, &built[..end])
+    !scan::is_prefix_by_words(index, &built[..end])
 }
 
 // Causes 1, 2, 3, 14, 5 and 15; else the total. The caller says whether another argument has cause 2, or 5.
 pub fn check_given(pivots: &[u8], bucket: &[u8], index: &[u8], wrong: bool, outside: bool) -> Answer
     ensures { λ r. ⌜ r ≡ answer (givenCauses wrong outside (now (pivots .entry)) (now (bucket .entry)) (now (index .entry))) (length (entries (now (bucket .entry)))) ⌝ }
 {
-    let checked = check_entries(pivots, bucket, wrong, outside);
+    let checked = check_rising(pivots, bucket, wrong);
     let Answer::Value(_) = checked else {
         return checked;
     };
-    if !is_index(pivots, bucket, index) {
+    let out = is_outside(pivots, bucket, outside);
+    let other = is_other(pivots, bucket, index);
+    if out {
+        return Answer::Refused(Refusal::OutOfRange);
+    }
+    if other {
         return Answer::Refused(Refusal::WrongIndex);
     }
-    checked
+    Answer::Value(bucket.len() / ENTRY_SIZE)
 }
 
 // The same causes with a key, which the caller says is outside or not; else the number of entries below it.

@@ -18,6 +18,7 @@ only test (e ∷ b) = cond (test e) (e ∷ only test b) (only test b)
 abbrev pub isBelow : Element → Entry → Bool
 isBelow p e = lt (key (e .key)) p
 
+-- the entries below an element, and those that aren't
 unfoldable pub entriesBelow : Element → Bucket → Bucket
 entriesBelow p b = only (isBelow p) b
 
@@ -50,6 +51,7 @@ unfoldable pub slotsFrom : PivotTable → Bucket → ℕ → ℕ → List Bucket
 slotsFrom pt b i zero = []
 slotsFrom pt b i (suc n) = slotEntries pt b i ∷ slotsFrom pt b (suc i) n
 
+-- one for each slot
 unfoldable pub slotBuckets : PivotTable → Bucket → List Bucket
 slotBuckets pt b = slotsFrom pt b 0 (NumBuckets pt)
 

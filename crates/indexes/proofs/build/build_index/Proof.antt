@@ -1,50 +1,57 @@
 -- `indexes::build_index` meets its contract.
-use Rattle.indexes.proofs.Checks.{checked, room-for, no-room, room, counted}
+use Rattle.indexes.proofs.Checks.{wf-checked, bucket-rises, checked, count-fits, room-for, build-refuses, build-outside, no-room, room, build-counted}
 use mathlib.Core.Path.{refl}
-use Rattle.model.proofs.calls.Refusals.{handed-on-first}
 use borrow.Author.Needs.{needs}
 use Rattle.indexes.proofs.build.build_index.Statement.{statement}
 use Rattle.indexes.proofs.build.build_index.Tie as tie
 
-ruleset rules = (needs, checked, room-for, no-room, room, counted, refl, handed-on-first)
+ruleset rules = (needs, wf-checked, bucket-rises, checked, count-fits, room-for, build-refuses, build-outside, no-room, room, build-counted, refl)
 
-check-entries-requires : tie.Need-check-entries-requires
-check-entries-requires c κs = search rules
+check-rising-requires : tie.Need-check-rising-requires
+check-rising-requires c κs = search rules
+
+enum-known-checked : tie.Need-enum-known-checked
+enum-known-checked c = search rules
 
 enum-told : tie.Need-enum-told
 enum-told c = search rules
 
-enum-told-2 : tie.Need-enum-told-2
-enum-told-2 c = search rules
-
 returns : tie.Need-returns
 returns c = (search rules, search rules)
 
-mul-if1 : tie.Need-mul-if1
-mul-if1 c = search rules
+entries-outside-requires : tie.Need-entries-outside-requires
+entries-outside-requires c κs = (search wf-checked, search bucket-rises)
 
 returns-2 : tie.Need-returns-2
 returns-2 c = (search rules, search rules)
 
+mul-if2 : tie.Need-mul-if2
+mul-if2 c = search rules
+
+returns-3 : tie.Need-returns-3
+returns-3 c = (search rules, search rules)
+
 write-index-requires : tie.Need-write-index-requires
-write-index-requires c κs = (search checked, search room-for)
+write-index-requires c κs = (search checked, search (needs, refl, room-for))
 
 same-length : tie.Need-same-length
 same-length c = search rules
 
-returns-3 : tie.Need-returns-3
-returns-3 c = (search rules, search rules)
+returns-4 : tie.Need-returns-4
+returns-4 c = (search rules, search rules)
 
 pub build-index-spec : {M : Type 1} → statement M
 build-index-spec =
     tie.close
     (tie.spec
-    check-entries-requires
+    check-rising-requires
+    enum-known-checked
     enum-told
-    enum-told-2
     returns
-    mul-if1
+    entries-outside-requires
     returns-2
+    mul-if2
+    returns-3
     write-index-requires
     same-length
-    returns-3)
+    returns-4)

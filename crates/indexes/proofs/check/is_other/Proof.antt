@@ -1,9 +1,9 @@
--- `indexes::is_index` meets its contract.
+-- `indexes::is_other` meets its contract.
 use Rattle.indexes.proofs.Checks.{built-inside, index-room, other-length, built-index}
 use Rattle.model.proofs.Lists.{part-counts}
 use borrow.Author.Needs.{needs}
-use Rattle.indexes.proofs.check.is_index.Statement.{statement}
-use Rattle.indexes.proofs.check.is_index.Tie as tie
+use Rattle.indexes.proofs.check.is_other.Statement.{statement}
+use Rattle.indexes.proofs.check.is_other.Tie as tie
 
 ruleset rules = (needs, built-inside, index-room, other-length, built-index)
 
@@ -31,8 +31,8 @@ is-prefix-by-words-requires c κs = search rules
 returns-2 : tie.Need-returns-2
 returns-2 c = search rules
 
-pub is-index-spec : {M : Type 1} → statement M
-is-index-spec =
+pub is-other-spec : {M : Type 1} → statement M
+is-other-spec =
     tie.close
     (tie.spec
     mul-end
