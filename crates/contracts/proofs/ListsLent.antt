@@ -1,6 +1,6 @@
 -- Lists of buckets: what a lent bucket and index hold, what the calls on them leave, and when they refuse.
 use mathlib.Core.Path.{_≡_, refl, sym, ap, _∙_}
-use mathlib.Core.Bool.{Bool, true, false, not, _||_, true≢false}
+use mathlib.Core.Bool.{Bool, true, false, not, _&&_, _||_, true≢false}
 use mathlib.Core.List.{List, [], _∷_, _++_}
 use mathlib.Core.Logic.{_⊎_, ⊎-elim}
 use mathlib.Core.Option.{none}
@@ -89,6 +89,20 @@ same-list m n (x ∷ a) (y ∷ c) g h =
 pub list-one : (l x : List ℕ) (a c : List Bucket) → ILseq l x a → ILseq l x c → a ≡ c
 list-one l x a c u v =
     same-list 0 0 a c (sym (places-encodeIndex (placesFrom 0 a)) ∙ ap places (sym (u .index) ∙ v .index) ∙ places-encodeIndex (placesFrom 0 c)) (sym (u .bucket) ∙ v .bucket)
+
+-- ---- Inv of a bucket
+
+by-flags : (a b : Bool) → ((not a && b) ≡ true → first ((a ⇒ Shape) ∷ (not b ⇒ Malformed) ∷ []) ≡ none)
+    × (first ((a ⇒ Shape) ∷ (not b ⇒ Malformed) ∷ []) ≡ none → (not a && b) ≡ true)
+unfolding outcome
+by-flags true b = (λ h. absurd (true≢false (sym h)), λ h. absurd (true≢false (none-here true Shape ((not b ⇒ Malformed) ∷ []) h)))
+by-flags false true = (λ h. refl, λ h. refl)
+by-flags false false = (λ h. absurd (true≢false (sym h)), λ h. absurd (true≢false (none-here true Malformed [] h)))
+
+-- it is that neither cause 1 nor cause 2 of a bucket applies, and no more
+pub inv-is : (l : List ℕ) → (Inv l ≡ true → first (bucketCauses false l) ≡ none) × (first (bucketCauses false l) ≡ none → Inv l ≡ true)
+unfolding bucketCauses
+inv-is l = by-flags (notEntryCount l) (entriesRead (entryBytes l))
 
 -- ---- refusals of a call with a given index
 

@@ -133,11 +133,9 @@ module _ (wrong : Bool) (p l : List ℕ) (a : Answer) (m : ℕ) (e : a ≡ answe
   pub room-for : (d : List ℕ) → m ≡ length p / 66 → n * 2 ≤ length d → length (elements p) * placeSize ≤ length d
   room-for d c h = omega (arith, pivots-counted, length-elements p)
 
+-- pivots that are checked are well formed
 pub wf-of-checked : (p l : List ℕ) → Checked p l → WFPivots (elements p) ≡ true
 wf-of-checked p l h = causes-wf false false p (h .pivots)
-
-pub rising-of-checked : (p l : List ℕ) → Checked p l → Rising l
-rising-of-checked p l h = h .bucket
 
 -- 5 of another argument comes with that of the entries
 pub told-outside : (outside b : Bool) → outside ≡ true → true ≡ (outside || b)

@@ -3,7 +3,7 @@ use mathlib.Core.Path.{_≡_, refl, sym, ap, _∙_}
 use mathlib.Core.Bool.{Bool, true, false, cond, not, true≢false}
 use mathlib.Core.List.{[], _∷_, _++_, map}
 use mathlib.Core.Logic.{⊎-elim}
-use Prim.Native.Nat.{ℕ, zero, suc, _-_, _≤_, _<_}
+use Prim.Native.Nat.{ℕ, zero, suc, _≤_, _<_}
 use native.Mathlib.Omega.{arith}
 use borrow.Author.Tests.{lt-ltb, le-ltb}
 use lib.Dec.{ltb}
@@ -122,17 +122,3 @@ module _ (p : Element) where
           here : (i : ℕ) → i < length (e ∷ b) → ((j : ℕ) (x : Entry) → j < length b → isBelow p (getD b j x) ≡ false) → isBelow p (getD (e ∷ b) i d) ≡ false
           here zero w f = k
           here (suc i) w f = f i d (omega arith)
-
-  -- the place is the only one with an entry below p before it, and none at it
-  pub below-is : (b : Bucket) → entriesRise b ≡ true → (n : ℕ) (d : Entry) → n ≤ length b → (0 < n → isBelow p (getD b (n - 1) d) ≡ true)
-      → (n < length b → isBelow p (getD b n d) ≡ false) → n ≡ length (entriesBelow p b)
-  below-is b h n d l f g = ⊎-elim down (λ w. absurd (up w)) (le-or-lt n (length (entriesBelow p b)))
-    where
-      m : ℕ
-      m = length (entriesBelow p b)
-
-      up : m < n → ⊥
-      up w = true≢false (sym (f (omega arith)) ∙ below-at b h (n - 1) d (omega arith) ∙ le-ltb (n - 1) m (omega arith))
-
-      down : n ≤ m → n ≡ m
-      down w = ⊎-elim (λ (v : m ≤ n). omega arith) (λ v. absurd (true≢false (sym (lt-ltb n m v) ∙ (sym (below-at b h n d (omega (arith, below-most b))) ∙ g (omega (arith, below-most b)))))) (le-or-lt m n)

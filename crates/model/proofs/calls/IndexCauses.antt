@@ -63,10 +63,6 @@ module _ (wrong outside : Bool) (p l : List ℕ) (h : first (entriesCauses wrong
   pub entries-inside : entriesInside (elements p) (entries l) ≡ true
   entries-inside = not-false (entriesInside (elements p) (entries l)) (five .1)
 
-  -- so it is without the other argument
-  pub entries-alone : first (entriesCauses false false p l) ≡ none
-  entries-alone = rw (entries-wrong, entries-outside) at h
-
 -- pivots and a bucket of which all this holds have none of the causes
 pub none-entries : (p l : List ℕ) → first (pivotCauses false false p) ≡ none → first (bucketCauses false l) ≡ none → entriesRise (entries l) ≡ true
     → entriesInside (elements p) (entries l) ≡ true → first (entriesCauses false false p l) ≡ none
