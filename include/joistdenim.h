@@ -32,8 +32,8 @@
 
 /* The version. A new call raises the minor; a changed signature, answer or format the major.
  * CHANGELOG.md says what a caller must do. */
-#define JD_VERSION_MAJOR 2
-#define JD_VERSION_MINOR 2
+#define JD_VERSION_MAJOR 3
+#define JD_VERSION_MINOR 0
 #define JD_VERSION_PATCH 0
 
 #define JD_MAX_LEN 64
@@ -154,7 +154,8 @@ uint32_t jd_translate_bucket_will_fit(const uint8_t *bucket, size_t bucket_len,
  * is the count of the pivots in two bytes, high byte first, the pivots and the edges. The text is
  * the line "slot left right shared edge" and a line for each slot: its number from 0, its two
  * pivots, the range's prefix and the edge. A tab parts two fields, and 0A ends each line. Keys
- * are lower-case hexadecimal; max is "max", and the empty key and no edge are "-".
+ * are lower-case hexadecimal; max is "max", and the empty key is "-". An edge of length 0 is ".",
+ * and no edge is "-".
  * An input with missing or extra bytes, or that is no table, is accepted too: its text is
  * "refused", a tab, the number of JD_SHAPE, JD_MALFORMED, JD_UNSORTED or JD_EMPTY_PREFIX, and 0A.
  * Refuses JD_NO_ROOM. */

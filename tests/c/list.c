@@ -1,6 +1,7 @@
 /*
- * The list of a table from C: the header line, T's list, each refusal that is a text, the limits
- * of 2 and 64 pivots and of 64 bytes, missing and extra bytes, and the destination.
+ * The list of a table from C: the header line, T's list, empty edges beside missing ones, each
+ * refusal that is a text, the limits of 2 and 64 pivots and of 64 bytes, missing and extra bytes,
+ * and the destination.
  */
 #include "table.h"
 
@@ -43,13 +44,44 @@ static void small_tables(void)
 {
     slice max = record(JD_MAX, none), no_edge = record(JD_NO_EDGE, none);
     pair all = {TABLE(key(none), max), no_edge};
+    pair first = {TABLE(key(none), key(BYTES("A"))), no_edge};
     pair empty_edge = {TABLE(key(BYTES("\xff\x0a")), max), key(none)};
     slice left = key(BYTES("\x01\x23")), right = key(BYTES("\x01\x24"));
     pair digits = {TABLE(left, right), key(BYTES("\xab\xcd\xef"))};
     lists("T", t(), BYTES(list_of_t));
     lists("all keys", input(2, all), BYTES(HEADER "0\t-\tmax\t-\t-\n"));
-    lists("an empty edge", input(2, empty_edge), BYTES(HEADER "0\tff0a\tmax\tff\t-\n"));
+    lists("the first keys", input(2, first), BYTES(HEADER "0\t-\t41\t-\t-\n"));
+    lists("an empty edge", input(2, empty_edge), BYTES(HEADER "0\tff0a\tmax\tff\t.\n"));
     lists("digits", input(2, digits), BYTES(HEADER "0\t0123\t0124\t0123\tabcdef\n"));
+}
+
+/* ---- empty edges and missing ones */
+
+/* T's pivots with these edges, and what their lines end with. */
+static void with_edges(const char *name, slice edges, const char *first, const char *second)
+{
+    char text[80];
+    int length = snprintf(text, sizeof text,
+                          HEADER "0\t4130\t4135\t41\t%s\n1\t4135\t42\t41\t%s\n", first, second);
+    slice in = input(3, (pair){pivots_of_t(), edges});
+    lists(name, in, (slice){(const uint8_t *)text, (size_t)length});
+}
+
+/* The table of examples/stripped.table; and T with empty and missing edges, a dot and a dash. */
+static void empty_and_missing(void)
+{
+    slice empty = key(none), no_edge = record(JD_NO_EDGE, none), max = record(JD_MAX, none);
+    slice a0 = key(BYTES("A0")), a5 = key(BYTES("A5")), b = key(BYTES("B")), c = key(BYTES("C"));
+    pair stripped = {TABLE(empty, a0, a5, b, max), TABLE(no_edge, empty, c, no_edge)};
+    lists("stripped", input(5, stripped),
+          BYTES(HEADER "0\t-\t4130\t-\t-\n1\t4130\t4135\t41\t.\n"
+                       "2\t4135\t42\t41\t43\n3\t42\tmax\t-\t-\n"));
+    with_edges("empty before missing", TABLE(empty, no_edge), ".", "-");
+    with_edges("missing before empty", TABLE(no_edge, empty), "-", ".");
+    with_edges("both empty", TABLE(empty, empty), ".", ".");
+    with_edges("both missing", TABLE(no_edge, no_edge), "-", "-");
+    with_edges("a dot before empty", TABLE(key(BYTES(".")), empty), "2e", ".");
+    with_edges("missing before a dash", TABLE(no_edge, key(BYTES("-"))), "-", "2d");
 }
 
 /* ---- limits */
@@ -148,6 +180,7 @@ int main(void)
 {
     header();
     small_tables();
+    empty_and_missing();
     limits();
     shapes();
     other_refusals();

@@ -9,34 +9,25 @@ use Rattle.model.specs.declared.Refusal.{Refusal}
 use Rattle.model.specs.declared.Refusal.the-variants.{NoRoom}
 use Rattle.model.specs.declared.Answer.{Answer}
 use Rattle.model.specs.declared.Answer.the-variants as answers
-use Rattle.model.specs.calls.Refusals.{outcome, over}
 use Rattle.model.specs.calls.KeyCalls.{noRoom}
-use Rattle.model.specs.list.ShelfList.{shelfList, listTableCauses, listTableAnswer, listTableLeaves}
-use Rattle.model.proofs.calls.Refusals.{later, done}
-use Rattle.model.proofs.Lists.{take-over}
+use Rattle.model.specs.list.ShelfList.{shelfList, listTableAnswer, listTableLeaves}
+use Rattle.model.proofs.calls.Refusals.{later, value-done}
+use Rattle.model.proofs.list.Lossless.{listed-length, listed}
 
-module _ (s d : List ℕ) (room : length (shelfList s) ≤ length d) where
-  no-cause : {A : Type 0} (f : Refusal → A) (v : A) → outcome f (listTableCauses s d) v ≡ v
-  no-cause f v = sym (later f v v (noRoom (length (shelfList s)) d) NoRoom [] (le-ltb _ _ room) (done f v v refl))
+module _ (s d : List ℕ) (a : Answer) (e : a ≡ listTableAnswer s d) where
+  pub never-refused : length (shelfList s) ≤ length d → (r : Refusal) → a ≡ answers.Refused r → ⊥
+  never-refused room r h =
+      let v = value-done answers.Refused _ (length (shelfList s)) refl in
+      let w = later answers.Refused _ _ (noRoom (length (shelfList s)) d) NoRoom [] (le-ltb _ _ room) v in
+      let z : _≡_ {A = ℕ} 0 1 = cc in
+      omega arith
 
-  module _ (a : Answer) (e : a ≡ listTableAnswer s d) where
-    value : a ≡ answers.Value (length (shelfList s))
-    value = e ∙ no-cause answers.Refused (answers.Value (length (shelfList s)))
+  module _ (n : ℕ) (h : a ≡ answers.Value n) where
+    pub list-length : n ≡ length (shelfList s)
+    list-length = listed-length s d n (sym e ∙ h)
 
-    pub never-refused : (r : Refusal) → a ≡ answers.Refused r → ⊥
-    never-refused r h =
-        let v = value in
-        let z : _≡_ {A = ℕ} 0 1 = cc in
-        omega arith
-
-    module _ (n : ℕ) (h : a ≡ answers.Value n) where
-      pub list-length : n ≡ length (shelfList s)
-      list-length =
-          let v = value in
-          cc
-
-      pub list-whole : (t : List ℕ) → t ≡ listTableLeaves s d → take n t ≡ shelfList s
-      list-whole t w = rw (list-length, w, no-cause (λ (r : Refusal). d) (over (shelfList s) d)) (take-over (shelfList s) d)
+    pub list-whole : (t : List ℕ) → t ≡ listTableLeaves s d → take n t ≡ shelfList s
+    list-whole t w = rw w (listed s d n (sym e ∙ h))
 
 -- the part of the text that is the list
 module _ (s t : List ℕ) (n : ℕ) (m : n ≡ length (shelfList s)) (e : take n t ≡ shelfList s) where

@@ -1,5 +1,5 @@
 -- The digits of numbers and keys, and the loops that write them.
-use mathlib.Core.Path.{_≡_, refl, sym, _∙_}
+use mathlib.Core.Path.{_≡_, refl, _∙_}
 use mathlib.Core.List.{List, [], _∷_, _++_}
 use Prim.Native.Nat.{ℕ, zero, suc, _+_, _*_, _/_, _%_, _≤_, _<_, min}
 use native.Mathlib.Omega.{arith}
@@ -8,6 +8,7 @@ use lib.ListN.{length, take, drop, getD, set, length-set}
 use Rattle.model.specs.keys.Key.{Key}
 use Rattle.model.specs.inner.Written.{into}
 use Rattle.model.specs.list.ShelfList.{digit, hex}
+use Rattle.model.proofs.list.Length.{hex-length}
 use Rattle.records.proofs.Writing.{copy-turn, copy-end}
 
 pub digit-low : (d : ℕ) → d < 10 → 48 + d ≡ digit d
@@ -19,11 +20,6 @@ unfolding digit
 digit-high d h = rw (le-ltb d 10 h)
 
 -- ---- the digits of a key
-
-pub length-hex : (k : Key) → length (hex k) ≡ length k * 2
-unfolding hex
-length-hex [] = omega arith
-length-hex (b ∷ k) = omega (arith, length-hex k)
 
 -- a byte's first digit stands at an even place
 first-digit : (k : Key) (j : ℕ) → j < length k → getD (hex k) (j * 2) 0 ≡ digit (getD k j 0 / 16)
@@ -59,15 +55,15 @@ module _ (k : Key) (i b r : ℕ) (e : b ≡ getD k (i / 2) 0) (h : i < length k 
 
 -- ---- the loops that write them
 
-pub hex-length : (k : Key) → length k * 2 ≡ length (hex k)
-hex-length k = sym (length-hex k)
+pub digits-length : (k : Key) → length k * 2 ≡ length (hex k)
+digits-length k = omega (arith, hex-length k)
 
 module _ (k : Key) (d₀ d : List ℕ) (i : ℕ) (h : d ≡ take i (hex k) ++ drop i d₀) where
   hex-turn : (v : ℕ) → v ≡ getD (hex k) i 0 → i < length k * 2 → i < length d₀ → set d i v ≡ take (i + 1) (hex k) ++ drop (i + 1) d₀
-  hex-turn v e p q = rw e (copy-turn (hex k) d₀ d i (i + 1) h (omega arith) (omega (arith, length-hex k)) (omega arith))
+  hex-turn v e p q = rw e (copy-turn (hex k) d₀ d i (i + 1) h (omega arith) (omega (arith, hex-length k)) (omega arith))
 
   hex-end : i ≡ min (length k * 2) (length d₀) → d ≡ into (hex k) d₀
-  hex-end e = copy-end (hex k) d₀ d i i h (omega arith) (omega arith) (omega (arith, length-hex k))
+  hex-end e = copy-end (hex k) d₀ d i i h (omega arith) (omega arith) (omega (arith, hex-length k))
 
   -- a digit a turn, where not all have room
   pub clipped-turn : (v : ℕ) → v ≡ getD (hex k) i 0 → i < length d → length d ≡ length d₀ → length d₀ < length k * 2

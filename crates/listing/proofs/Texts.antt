@@ -13,11 +13,11 @@ use Rattle.model.specs.keys.Order.{key, max}
 use Rattle.model.specs.records.Record.{edge, noEdge, maxMark, noEdgeMark, lengthField, keyBytes, element, edgeOf}
 use Rattle.model.specs.ranges.RangePrefix.{PivotLcp}
 use Rattle.model.specs.inner.Written.{into}
-use Rattle.model.specs.list.ShelfList.{tab, newline, digit, decimal, hex, dash, maxWord, keyText, elementText, edgeText}
+use Rattle.model.specs.list.ShelfList.{tab, newline, digit, decimal, hex, dash, dot, maxWord, keyText, elementText, edgeText}
 use Rattle.model.proofs.Lists.{length-over, written-on}
 use Rattle.model.proofs.keys.Key.{prefix-is-take}
 use Rattle.model.proofs.ranges.RangePrefix.{prefix-of-left}
-use Rattle.listing.specs.Text.{field, pivotField, sharedField, edgeField}
+use Rattle.listing.specs.Text.{hexOr, field, pivotField, sharedField, edgeField}
 
 -- ---- two texts one after the other
 
@@ -46,38 +46,47 @@ pub field-written : (n at end : ℕ) (t d v w : List ℕ) → n ≡ length t →
 unfolding field
 field-written n at end t d v w l e m g = both-written n at t (end ∷ []) d v w l e m g
 
--- ---- a key
+-- ---- a key, or a mark in place of the empty one
 
-module _ (k : Key) where
-  none-text : length k ≡ 0 → dash ≡ keyText k
-  unfolding keyText
+module _ (mark : ℕ) (k : Key) where
+  none-text : length k ≡ 0 → mark ∷ [] ≡ hexOr mark k
+  unfolding hexOr
   none-text = go k
     where
-      go : (k : Key) → length k ≡ 0 → dash ≡ keyText k
+      go : (k : Key) → length k ≡ 0 → mark ∷ [] ≡ hexOr mark k
       go [] h = refl
       go (b ∷ k) h = absurd (omega arith)
 
-  some-text : (length k ≡ 0 → ⊥) → hex k ≡ keyText k
-  unfolding keyText hex
+  some-text : (length k ≡ 0 → ⊥) → hex k ≡ hexOr mark k
+  unfolding hexOr hex
   some-text = go k
     where
-      go : (k : Key) → (length k ≡ 0 → ⊥) → hex k ≡ keyText k
+      go : (k : Key) → (length k ≡ 0 → ⊥) → hex k ≡ hexOr mark k
       go [] h = absurd (h refl)
       go (b ∷ k) h = refl
 
-  pub none-length : length k ≡ 0 → 1 ≡ length (keyText k)
-  unfolding dash
+  pub none-length : length k ≡ 0 → 1 ≡ length (hexOr mark k)
   none-length h = ap length (none-text h)
 
-  pub none-written : (d w : List ℕ) → length k ≡ 0 → w ≡ into (0x2d ∷ []) d → w ≡ into (keyText k) d
-  unfolding dash
+  pub none-written : (d w : List ℕ) → length k ≡ 0 → w ≡ into (mark ∷ []) d → w ≡ into (hexOr mark k) d
   none-written d w h e = e ∙ ap (λ (t : List ℕ). into t d) (none-text h)
 
-  pub some-length : (n : ℕ) → (length k ≡ 0 → ⊥) → n ≡ length (hex k) → n ≡ length (keyText k)
+  pub some-length : (n : ℕ) → (length k ≡ 0 → ⊥) → n ≡ length (hex k) → n ≡ length (hexOr mark k)
   some-length n h e = e ∙ ap length (some-text h)
 
-  pub some-written : (d w : List ℕ) → (length k ≡ 0 → ⊥) → w ≡ into (hex k) d → w ≡ into (keyText k) d
+  pub some-written : (d w : List ℕ) → (length k ≡ 0 → ⊥) → w ≡ into (hex k) d → w ≡ into (hexOr mark k) d
   some-written d w h e = e ∙ ap (λ (t : List ℕ). into t d) (some-text h)
+
+-- where the mark is `-` it is the text of a key, and where it is `.` that of an edge
+key-is : (k : Key) → hexOr 0x2d k ≡ keyText k
+unfolding hexOr keyText dash
+key-is [] = refl
+key-is (b ∷ k) = refl
+
+edge-is : (k : Key) → hexOr 0x2e k ≡ edgeText (edge k)
+unfolding hexOr edgeText dot
+edge-is [] = refl
+edge-is (b ∷ k) = refl
 
 -- ---- a number
 
@@ -123,14 +132,14 @@ module _ (r : List ℕ) (t : Bool) (e : t ≡ eqb (lengthField r) maxMark) where
   unfolding field elementText maxWord
   max-written d w h f = rw (is-max h) f
 
-  pub pivot-length : (n : ℕ) (k : Key) → k ≡ keyBytes r → t ≡ false → n ≡ length (field (keyText k) tab) → n ≡ length (pivotField r)
+  pub pivot-length : (n : ℕ) (k : Key) → k ≡ keyBytes r → t ≡ false → n ≡ length (field (hexOr 0x2d k) tab) → n ≡ length (pivotField r)
   unfolding elementText
-  pivot-length n k g h f = rw (is-key h, ← g) f
+  pivot-length n k g h f = rw (is-key h, ← g, ← key-is k) f
 
-  pub pivot-written : (k : Key) (d w : List ℕ) → k ≡ keyBytes r → t ≡ false → w ≡ into (field (keyText k) tab) d
+  pub pivot-written : (k : Key) (d w : List ℕ) → k ≡ keyBytes r → t ≡ false → w ≡ into (field (hexOr 0x2d k) tab) d
       → w ≡ into (pivotField r) d
   unfolding elementText
-  pivot-written k d w g h f = rw (is-key h, ← g) f
+  pivot-written k d w g h f = rw (is-key h, ← g, ← key-is k) f
 
 -- ---- the prefix of a range
 
@@ -146,20 +155,20 @@ module _ (l r : List ℕ) (t : Bool) (e : t ≡ eqb (lengthField l) maxMark) whe
   the-prefix : (n : ℕ) (k : Key) → k ≡ keyBytes l → t ≡ false → n ≡ length (PivotLcp (key k) (element r)) → take n k ≡ PivotLcp (element l) (element r)
   the-prefix n k g h f = rw (is-key l t e h, ← g, f) (prefix-is-take (PivotLcp (key k) (element r)) k (prefix-of-left k (element r)))
 
-  pub no-prefix-length : (n : ℕ) → t ≡ true → n ≡ length (field (keyText []) tab) → n ≡ length (sharedField l r)
-  no-prefix-length n h f = rw (no-prefix h) f
+  pub no-prefix-length : (n : ℕ) → t ≡ true → n ≡ length (field (hexOr 0x2d []) tab) → n ≡ length (sharedField l r)
+  no-prefix-length n h f = rw (no-prefix h, ← key-is []) f
 
-  pub no-prefix-written : (d w : List ℕ) → t ≡ true → w ≡ into (field (keyText []) tab) d
+  pub no-prefix-written : (d w : List ℕ) → t ≡ true → w ≡ into (field (hexOr 0x2d []) tab) d
       → w ≡ into (sharedField l r) d
-  no-prefix-written d w h f = rw (no-prefix h) f
+  no-prefix-written d w h f = rw (no-prefix h, ← key-is []) f
 
   pub prefix-length : (n m : ℕ) (k : Key) → k ≡ keyBytes l → t ≡ false → n ≡ length (PivotLcp (key k) (element r))
-      → m ≡ length (field (keyText (take n k)) tab) → m ≡ length (sharedField l r)
-  prefix-length n m k g h f q = rw (← the-prefix n k g h f) q
+      → m ≡ length (field (hexOr 0x2d (take n k)) tab) → m ≡ length (sharedField l r)
+  prefix-length n m k g h f q = rw (← the-prefix n k g h f, ← key-is (take n k)) q
 
   pub prefix-written : (n : ℕ) (k : Key) (d w : List ℕ) → k ≡ keyBytes l → t ≡ false → n ≡ length (PivotLcp (key k) (element r))
-      → w ≡ into (field (keyText (take n k)) tab) d → w ≡ into (sharedField l r) d
-  prefix-written n k d w g h f q = rw (← the-prefix n k g h f) q
+      → w ≡ into (field (hexOr 0x2d (take n k)) tab) d → w ≡ into (sharedField l r) d
+  prefix-written n k d w g h f q = rw (← the-prefix n k g h f, ← key-is (take n k)) q
 
 -- ---- an edge
 
@@ -180,11 +189,9 @@ module _ (r : List ℕ) (t : Bool) (e : t ≡ eqb (lengthField r) noEdgeMark) wh
   unfolding field edgeText dash
   no-edge-written d w h f = rw (is-none h) f
 
-  pub edge-length : (n : ℕ) (k : Key) → k ≡ keyBytes r → t ≡ false → n ≡ length (field (keyText k) newline) → n ≡ length (edgeField r)
-  unfolding edgeText
-  edge-length n k g h f = rw (is-edge h, ← g) f
+  pub edge-length : (n : ℕ) (k : Key) → k ≡ keyBytes r → t ≡ false → n ≡ length (field (hexOr 0x2e k) newline) → n ≡ length (edgeField r)
+  edge-length n k g h f = rw (is-edge h, ← g, ← edge-is k) f
 
-  pub edge-written : (k : Key) (d w : List ℕ) → k ≡ keyBytes r → t ≡ false → w ≡ into (field (keyText k) newline) d
+  pub edge-written : (k : Key) (d w : List ℕ) → k ≡ keyBytes r → t ≡ false → w ≡ into (field (hexOr 0x2e k) newline) d
       → w ≡ into (edgeField r) d
-  unfolding edgeText
-  edge-written k d w g h f = rw (is-edge h, ← g) f
+  edge-written k d w g h f = rw (is-edge h, ← g, ← edge-is k) f

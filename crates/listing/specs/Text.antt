@@ -3,10 +3,16 @@ use mathlib.Core.List.{List, [], _∷_, _++_}
 use Prim.Native.Nat.{ℕ, zero, suc, _+_, _-_}
 use Rattle.model.specs.declared.Answer.{Answer}
 use Rattle.model.specs.declared.Answer.the-variants as answers
+use Rattle.model.specs.keys.Key.{Key}
 use Rattle.model.specs.records.Record.{element, edgeOf}
 use Rattle.model.specs.inner.Places.{recordAt}
 use Rattle.model.specs.ranges.RangePrefix.{PivotLcp}
-use Rattle.model.specs.list.ShelfList.{tab, newline, header, decimal, keyText, elementText, edgeText, slotLine, refusedText}
+use Rattle.model.specs.list.ShelfList.{tab, newline, header, decimal, hex, keyText, elementText, edgeText, slotLine, refusedText}
+
+-- the digits of a key, or a mark in place of the empty one
+unfoldable pub hexOr : ℕ → Key → List ℕ
+hexOr mark [] = mark ∷ []
+hexOr mark (b ∷ k) = hex (b ∷ k)
 
 -- a text and the byte that ends it
 unfoldable pub field : List ℕ → ℕ → List ℕ

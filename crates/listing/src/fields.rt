@@ -3,8 +3,8 @@ ghost use mathlib.Core.Path.{_≡_};
 ghost use Prim.Native.Nat.{_+_, _*_, _≤_, _<_};
 ghost use lib.ListN.{length, getD};
 ghost use Rattle.model.specs.inner.Written.{into};
-ghost use Rattle.model.specs.list.ShelfList.{digit, decimal, hex, keyText};
-ghost use Rattle.listing.specs.Text.{field, pivotField, sharedField, edgeField};
+ghost use Rattle.model.specs.list.ShelfList.{digit, decimal, hex};
+ghost use Rattle.listing.specs.Text.{hexOr, field, pivotField, sharedField, edgeField};
 
 fn wide(x: u8) -> usize
     ensures { λ r. ⌜ (r ≡ x) × (r < 256) ⌝ }
@@ -76,26 +76,27 @@ fn hex_text(k: &[u8], dest: &mut [u8]) -> usize
     len
 }
 
-// A key, or `-` for the empty one.
-fn key_text(k: &[u8], dest: &mut [u8]) -> usize
+// A key, or a mark in place of the empty one.
+fn key_text(k: &[u8], empty: u8, dest: &mut [u8]) -> usize
     requires { ⌜ length (now k) ≤ 64 ⌝ }
-    ensures length { λ r. ⌜ (r ≡ length (keyText (now (k .entry)))) × (r ≤ 128) ⌝ }
-    ensures written { λ r. ⌜ now (dest .exit) ≡ into (keyText (now (k .entry))) (now (dest .entry)) ⌝ }
+    ensures length { λ r. ⌜ (r ≡ length (hexOr empty (now (k .entry)))) × (r ≤ 128) ⌝ }
+    ensures written { λ r. ⌜ now (dest .exit) ≡ into (hexOr empty (now (k .entry))) (now (dest .entry)) ⌝ }
 {
     if k.len() == 0 {
-        records::copy(b"-", dest);
+        let mark = [empty];
+        records::copy(&mark, dest);
         return 1;
     }
     hex_text(k, dest)
 }
 
-// A key and the byte that ends its field.
-fn key_field(k: &[u8], end: u8, dest: &mut [u8]) -> usize
+// The same, and the byte that ends its field.
+fn key_field(k: &[u8], empty: u8, end: u8, dest: &mut [u8]) -> usize
     requires { ⌜ length (now k) ≤ 64 ⌝ }
-    ensures length { λ r. ⌜ (r ≡ length (field (keyText (now (k .entry))) end)) × (r ≤ 129) ⌝ }
-    ensures written { λ r. ⌜ now (dest .exit) ≡ into (field (keyText (now (k .entry))) end) (now (dest .entry)) ⌝ }
+    ensures length { λ r. ⌜ (r ≡ length (field (hexOr empty (now (k .entry))) end)) × (r ≤ 129) ⌝ }
+    ensures written { λ r. ⌜ now (dest .exit) ≡ into (field (hexOr empty (now (k .entry))) end) (now (dest .entry)) ⌝ }
 {
-    let n = key_text(k, dest);
+    let n = key_text(k, empty, dest);
     let at = scan::least(n, dest.len());
     let last = [end];
     records::copy(&last, &mut dest[at..]);
@@ -112,7 +113,7 @@ pub(crate) fn element_field(rec: &[u8], dest: &mut [u8]) -> usize
         records::copy(b"max\t", dest);
         return 4;
     }
-    key_field(records::key_bytes(rec), b'\t', dest)
+    key_field(records::key_bytes(rec), b'-', b'\t', dest)
 }
 
 // The prefix of the range between two pivots.
@@ -123,13 +124,13 @@ pub(crate) fn shared_field(left: &[u8], right: &[u8], dest: &mut [u8]) -> usize
 {
     let k = records::key_bytes(left);
     if records::is_max(left) {
-        return key_field(&k[..0], b'\t', dest);
+        return key_field(&k[..0], b'-', b'\t', dest);
     }
     let n = range_prefix::range_prefix_len(k, right);
-    key_field(&k[..n], b'\t', dest)
+    key_field(&k[..n], b'-', b'\t', dest)
 }
 
-// An edge, which is the last of a line.
+// An edge, which is the last of a line: `.` where it is empty, `-` where there is none.
 pub(crate) fn edge_field(rec: &[u8], dest: &mut [u8]) -> usize
     requires { ⌜ length (now rec) ≤ 66 ⌝ }
     ensures length { λ r. ⌜ (r ≡ length (edgeField (now (rec .entry)))) × (r ≤ 129) ⌝ }
@@ -139,7 +140,7 @@ pub(crate) fn edge_field(rec: &[u8], dest: &mut [u8]) -> usize
         records::copy(b"-\n", dest);
         return 2;
     }
-    key_field(records::key_bytes(rec), b'\n', dest)
+    key_field(records::key_bytes(rec), b'.', b'\n', dest)
 }
 
 // A number below 100 and the byte that ends its field.

@@ -1,2 +1,4 @@
 pub mod ShelfList
 pub mod Length
+pub mod Fields
+pub mod Lossless

@@ -2,6 +2,7 @@
 mod by_hand;
 mod calls;
 mod dests;
+mod laws;
 mod random;
 mod small;
 mod wrapper;
@@ -12,7 +13,7 @@ use calls::LIST_TABLE;
 
 pub fn tests() -> Vec<Test> {
     vec![
-        test("list of T by hand", by_hand::list_of_t),
+        test("lists: small tables by hand", by_hand::small_tables),
         test("lists: refused by hand", by_hand::refused),
         test("lists: the longest text by hand", by_hand::longest),
         test("list_table: lengths", |group| {
@@ -26,6 +27,9 @@ pub fn tests() -> Vec<Test> {
         test("list_table: random", |group| random::good(group, 10_000)),
         test("list_table: random with faults", |group| {
             random::spoiled(group, 30_000)
+        }),
+        test("law: one table for each text", |group| {
+            laws::one_table_each(group, 3_000)
         }),
         test("wrapper: list", wrapper::list),
     ]

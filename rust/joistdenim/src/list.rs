@@ -7,7 +7,8 @@ use crate::refusal::Refusal;
 /// input is the count of the pivots in two bytes, high byte first, the pivots and the edges. The
 /// text is a line with the names of the fields and a line for each slot: its number from 0, its
 /// two pivots, the range's prefix and the edge. A tab parts two fields, and 0A ends each line.
-/// Keys are lower-case hexadecimal; max is `max`, and the empty key and no edge are `-`.
+/// Keys are lower-case hexadecimal; max is `max`, and the empty key is `-`. An edge of length 0
+/// is `.`, and no edge is `-`.
 ///
 /// An input with missing or extra bytes, or that is no table, is accepted too: its text is
 /// `refused`, a tab, the number 1, 2, 3 or 4, and 0A. Refuses 10.
@@ -15,9 +16,9 @@ use crate::refusal::Refusal;
 /// ```
 /// use joistdenim::{list_table, RECORD_SIZE};
 ///
-/// // Two pivots, 41 30 and 41 35, and the edge 43.
-/// let mut input = vec![0, 2];
-/// for key in [&[0x41, 0x30][..], &[0x41, 0x35], &[0x43]] {
+/// // The pivots 41 30, 41 35 and 42, the edge 43 and an empty one.
+/// let mut input = vec![0, 3];
+/// for key in [&[0x41, 0x30][..], &[0x41, 0x35], &[0x42], &[0x43], &[]] {
 ///     let mut record = [0; RECORD_SIZE];
 ///     record[1] = key.len() as u8;
 ///     record[2..2 + key.len()].copy_from_slice(key);
@@ -25,7 +26,7 @@ use crate::refusal::Refusal;
 /// }
 /// let mut dest = [0; 100];
 /// let length = list_table(&input, &mut dest)?;
-/// let text = "slot\tleft\tright\tshared\tedge\n0\t4130\t4135\t41\t43\n";
+/// let text = "slot\tleft\tright\tshared\tedge\n0\t4130\t4135\t41\t43\n1\t4135\t42\t41\t.\n";
 /// assert_eq!(dest[..length], *text.as_bytes());
 ///
 /// let length = list_table(&input[1..], &mut dest)?;

@@ -20,9 +20,10 @@ fn element_text(element: Element) -> String {
     }
 }
 
-/// "No edge is `-`".
+/// W6: "Write an empty edge as a single `.` in the last column. No edge stays `-`".
 fn edge_text(edge: Edge) -> String {
     match edge {
+        Edge::To([]) => ".".to_string(),
         Edge::To(prefix) => key_text(prefix),
         Edge::Absent => "-".to_string(),
     }

@@ -39,8 +39,11 @@ fn empty_key_max_and_empty_edge() {
     let first = input(2, &[record(&[]), max(), no_edge()]);
     let header = "slot\tleft\tright\tshared\tedge\n";
     assert_eq!(text(&first), format!("{header}0\t-\tmax\t-\t-\n"));
-    let empty_edge = input(2, &[record(&[0xFF, 0x0A]), max(), record(&[])]);
-    assert_eq!(text(&empty_edge), format!("{header}0\tff0a\tmax\tff\t-\n"));
+    let edge = |edge| text(&input(2, &[record(&[0xFF, 0x0A]), max(), edge]));
+    let line = format!("{header}0\tff0a\tmax\tff\t");
+    assert_eq!(edge(record(&[])), format!("{line}.\n"));
+    assert_eq!(edge(no_edge()), format!("{line}-\n"));
+    assert_eq!(edge(record(b".")), format!("{line}2e\n"));
 }
 
 #[test]

@@ -16,7 +16,7 @@ use Rattle.model.specs.records.Record.{Edge, edge, noEdge, elements, edg
 use Rattle.model.specs.ranges.RangePrefix.{PivotLcp}
 use Rattle.model.specs.tables.Tables.{PivotTable, EdgeTable, maxPivots, all, shortElement, shortEdge}
 use Rattle.model.specs.calls.Refusals.{Cause, number, outcome, first}
-use Rattle.model.specs.list.ShelfList.{newline, header, refusedWord, maxWord, dash, digit, decimal, hex, keyText, elementText, edgeText, slotLine, slotLines, tableText}
+use Rattle.model.specs.list.ShelfList.{newline, header, refusedWord, maxWord, dash, dot, digit, decimal, hex, keyText, elementText, edgeText, slotLine, slotLines, tableText}
 use Rattle.model.specs.list.ShelfList.{listPivots, listEdges, listCauses, refusedText, shelfList}
 use Rattle.model.proofs.Lists.{le-or-lt}
 use Rattle.model.proofs.keys.Key.{both}
@@ -26,7 +26,7 @@ use Rattle.model.proofs.tables.Routing.{wf-all-short}
 use Rattle.model.proofs.tables.SlotPrefix.{range-prefix-short}
 
 -- a key's text
-hex-length : (k : Key) → length (hex k) ≡ 2 * length k
+pub hex-length : (k : Key) → length (hex k) ≡ 2 * length k
 unfolding hex
 hex-length [] = refl
 hex-length (b ∷ k) = omega (arith, hex-length k)
@@ -42,8 +42,9 @@ element-length (key k) h = key-length k (leb-true (length k) maxLen h)
 element-length max h = omega arith
 
 edge-length : (e : Edge) → shortEdge e ≡ true → length (edgeText e) ≤ 128
-unfolding edgeText dash
-edge-length (edge k) h = key-length k (leb-true (length k) maxLen h)
+unfolding edgeText dash dot
+edge-length (edge []) h = omega arith
+edge-length (edge (b ∷ k)) h = let m = leb-true (length (b ∷ k)) maxLen h in omega (arith, hex-length (b ∷ k))
 edge-length noEdge h = omega arith
 
 -- a number's text

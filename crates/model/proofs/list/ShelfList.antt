@@ -9,7 +9,7 @@ use Rattle.model.specs.records.Record.{pieces, joined, records, elements
 use Rattle.model.specs.tables.Tables.{PivotTable, EdgeTable, all, risesFrom, IsStrictlySorted, edgesFit, WFEdges}
 use Rattle.model.specs.calls.Refusals.{outcome}
 use Rattle.model.specs.calls.TableCalls.{notPivotCount, notEdgeCount, pivotsRead, edgesRead, pivotCauses, tableCauses}
-use Rattle.model.specs.list.ShelfList.{header, refusedWord, maxWord, dash, digit, decimal, hex, keyText, elementText, edgeText, slotLine, slotLines, tableText}
+use Rattle.model.specs.list.ShelfList.{header, refusedWord, maxWord, dash, dot, digit, decimal, hex, keyText, elementText, edgeText, slotLine, slotLines, tableText}
 use Rattle.model.specs.list.ShelfList.{listPivots, listEdges, notListSize, listCauses, refusedText, shelfList}
 
 -- the pivots ε, 01 to 0A, AF FF and max, with the edges CA FE and ε
@@ -30,12 +30,12 @@ linesU =
     0x36 ∷ 0x09 ∷ 0x30 ∷ 0x36 ∷ 0x09 ∷ 0x30 ∷ 0x37 ∷ 0x09 ∷ 0x30 ∷ 0x36 ∷ 0x09 ∷ 0x2d ∷ 0x0a ∷
     0x37 ∷ 0x09 ∷ 0x30 ∷ 0x37 ∷ 0x09 ∷ 0x30 ∷ 0x38 ∷ 0x09 ∷ 0x30 ∷ 0x37 ∷ 0x09 ∷ 0x2d ∷ 0x0a ∷
     0x38 ∷ 0x09 ∷ 0x30 ∷ 0x38 ∷ 0x09 ∷ 0x30 ∷ 0x39 ∷ 0x09 ∷ 0x30 ∷ 0x38 ∷ 0x09 ∷ 0x2d ∷ 0x0a ∷
-    0x39 ∷ 0x09 ∷ 0x30 ∷ 0x39 ∷ 0x09 ∷ 0x30 ∷ 0x61 ∷ 0x09 ∷ 0x30 ∷ 0x39 ∷ 0x09 ∷ 0x2d ∷ 0x0a ∷
+    0x39 ∷ 0x09 ∷ 0x30 ∷ 0x39 ∷ 0x09 ∷ 0x30 ∷ 0x61 ∷ 0x09 ∷ 0x30 ∷ 0x39 ∷ 0x09 ∷ 0x2e ∷ 0x0a ∷
     0x31 ∷ 0x30 ∷ 0x09 ∷ 0x30 ∷ 0x61 ∷ 0x09 ∷ 0x61 ∷ 0x66 ∷ 0x66 ∷ 0x66 ∷ 0x09 ∷ 0x2d ∷ 0x09 ∷ 0x2d ∷ 0x0a ∷
     0x31 ∷ 0x31 ∷ 0x09 ∷ 0x61 ∷ 0x66 ∷ 0x66 ∷ 0x66 ∷ 0x09 ∷ 0x6d ∷ 0x61 ∷ 0x78 ∷ 0x09 ∷ 0x2d ∷ 0x09 ∷ 0x2d ∷ 0x0a ∷ []
 
 pub list-of-U : shelfList (0 ∷ 13 ∷ encodeAll pivotsU ++ encodeEdges edgesU) ≡ header ++ linesU
-unfolding lteKey lte lcpright lcp PivotLcp lengthField allZero fieldReading reading keyBytes element edgeOf recordOf encode encodeEdge pieces joined records elements edges encodeAll encodeEdges all risesFrom IsStrictlySorted edgesFit WFEdges outcome pivotCauses tableCauses notPivotCount notEdgeCount pivotsRead edgesRead header maxWord dash digit decimal hex keyText elementText edgeText slotLine slotLines tableText listPivots listEdges notListSize listCauses shelfList
+unfolding lteKey lte lcpright lcp PivotLcp lengthField allZero fieldReading reading keyBytes element edgeOf recordOf encode encodeEdge pieces joined records elements edges encodeAll encodeEdges all risesFrom IsStrictlySorted edgesFit WFEdges outcome pivotCauses tableCauses notPivotCount notEdgeCount pivotsRead edgesRead header maxWord dash dot digit decimal hex keyText elementText edgeText slotLine slotLines tableText listPivots listEdges notListSize listCauses shelfList
 list-of-U = refl
 
 -- `refused`, a tab, a digit and 0A

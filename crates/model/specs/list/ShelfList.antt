@@ -31,7 +31,7 @@ header =
     0x73 ∷ 0x68 ∷ 0x61 ∷ 0x72 ∷ 0x65 ∷ 0x64 ∷ tab ∷
     0x65 ∷ 0x64 ∷ 0x67 ∷ 0x65 ∷ newline ∷ []
 
--- `refused`, `max` and `-`
+-- `refused`, `max`, `-` and `.`
 unfoldable pub refusedWord : List ℕ
 refusedWord = 0x72 ∷ 0x65 ∷ 0x66 ∷ 0x75 ∷ 0x73 ∷ 0x65 ∷ 0x64 ∷ []
 
@@ -40,6 +40,9 @@ maxWord = 0x6d ∷ 0x61 ∷ 0x78 ∷ []
 
 unfoldable pub dash : List ℕ
 dash = 0x2d ∷ []
+
+unfoldable pub dot : List ℕ
+dot = 0x2e ∷ []
 
 -- a digit: `0` to `9`, then `a` to `f`
 unfoldable pub digit : ℕ → ℕ
@@ -64,9 +67,10 @@ unfoldable pub elementText : Element → List ℕ
 elementText (key k) = keyText k
 elementText max = maxWord
 
--- "no edge is `-`"
+-- W6: "Write an empty edge as a single `.` in the last column. No edge stays `-`"
 unfoldable pub edgeText : Edge → List ℕ
-edgeText (edge q) = keyText q
+edgeText (edge []) = dot
+edgeText (edge (b ∷ q)) = hex (b ∷ q)
 edgeText noEdge = dash
 
 -- one slot: its number, the pivots, the range's prefix and the edge

@@ -34,7 +34,11 @@ fn pivot_keys(shared: &[u8]) -> Vec<Vec<u8>> {
 
 /// All rising tables of two and three of these pivots, the last also max.
 pub fn tables(shared: &[u8]) -> Vec<Table> {
-    let keys = pivot_keys(shared);
+    tables_of(&pivot_keys(shared))
+}
+
+/// The same of other keys, which rise.
+pub fn tables_of(keys: &[Vec<u8>]) -> Vec<Table> {
     let mut tables = vec![];
     let mut take = |chosen: &[&Vec<u8>], to_max| {
         tables.push(Table::new(

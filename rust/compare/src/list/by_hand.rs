@@ -1,4 +1,4 @@
-//! Lists written down by hand, from document 01.
+//! Lists written down by hand, from document 01 and W6.
 use super::calls::LIST_TABLE;
 use super::dests::ROOM;
 use crate::asked::Asked;
@@ -7,8 +7,7 @@ use crate::inputs::{field_record, record, MAX, NO_EDGE};
 use crate::list_inputs::{counted_as, input_of_t, joined};
 use crate::table_inputs::{absent, edges_of_t, pivots_of_t, rising, table, with};
 
-const LIST_OF_T: &str =
-    "slot\tleft\tright\tshared\tedge\n0\t4130\t4135\t41\t43\n1\t4135\t42\t41\t-\n";
+const HEADER: &str = "slot\tleft\tright\tshared\tedge\n";
 
 /// The text, in a destination exactly long enough and in a longer one; and 10 a byte below.
 fn listed(group: &mut Group, input: &[u8], text: &str) {
@@ -25,18 +24,35 @@ fn listed(group: &mut Group, input: &[u8], text: &str) {
     }
 }
 
-pub fn list_of_t(group: &mut Group) {
-    listed(group, &input_of_t(), LIST_OF_T);
-    let header = "slot\tleft\tright\tshared\tedge\n";
-    let first = joined(&[record(&[]), field_record(MAX)].concat(), &absent(1));
-    listed(group, &first, &format!("{header}0\t-\tmax\t-\t-\n"));
-    let to_max = [record(&[0xFF, 0x0A]), field_record(MAX)].concat();
-    let empty_edge = joined(&to_max, &record(&[]));
-    listed(
-        group,
-        &empty_edge,
-        &format!("{header}0\tff0a\tmax\tff\t-\n"),
-    );
+/// T; ε and max; and empty edges beside missing ones, beside ε, and beside the byte of a dot.
+pub fn small_tables(group: &mut Group) {
+    let [empty, dot, no_edge, max] = [
+        record(&[]),
+        record(b"."),
+        field_record(NO_EDGE),
+        field_record(MAX),
+    ];
+    let mut listed = |pivots: &[u8], edges: &[u8], lines: &str| {
+        listed(group, &joined(pivots, edges), &format!("{HEADER}{lines}"));
+    };
+    let t = pivots_of_t();
+    for (edges, first, second) in [
+        (edges_of_t(), "43", "-"),
+        ([empty, no_edge].concat(), ".", "-"),
+        ([no_edge, empty].concat(), "-", "."),
+        ([dot, empty].concat(), "2e", "."),
+    ] {
+        let lines = format!("0\t4130\t4135\t41\t{first}\n1\t4135\t42\t41\t{second}\n");
+        listed(&t, &edges, &lines);
+    }
+    listed(&[empty, max].concat(), &no_edge, "0\t-\tmax\t-\t-\n");
+    let to_max = [record(&[0xFF, 0x0A]), max].concat();
+    listed(&to_max, &empty, "0\tff0a\tmax\tff\t.\n");
+    let stripped = [&empty[..], &t, &max].concat();
+    let edges = [no_edge, empty, record(&[0x43]), no_edge].concat();
+    let lines = "0\t-\t4130\t-\t-\n1\t4130\t4135\t41\t.\n\
+                 2\t4135\t42\t41\t43\n3\t42\tmax\t-\t-\n";
+    listed(&stripped, &edges, lines);
 }
 
 pub fn refused(group: &mut Group) {
@@ -73,7 +89,7 @@ pub fn longest(group: &mut Group) {
     let keys: Vec<Vec<u8>> = (0..64).map(|i| [&head[..], &[i]].concat()).collect();
     let keys: Vec<&[u8]> = keys.iter().map(|key| &key[..]).collect();
     let input = joined(&table(&keys), &record(&[0x43; 64]).repeat(63));
-    let mut text = "slot\tleft\tright\tshared\tedge\n".to_string();
+    let mut text = HEADER.to_string();
     let (head, edge) = ("41".repeat(63), "43".repeat(64));
     for slot in 0..63 {
         let (left, right) = (

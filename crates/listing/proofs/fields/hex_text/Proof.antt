@@ -1,10 +1,10 @@
 -- `listing::fields::hex_text` meets its contract.
 use borrow.Author.Needs.{needs}
-use Rattle.listing.proofs.Digits.{hex-length}
+use Rattle.listing.proofs.Digits.{digits-length}
 use Rattle.listing.proofs.fields.hex_text.Statement.{statement}
 use Rattle.listing.proofs.fields.hex_text.Tie as tie
 
-ruleset rules = (needs, hex-length)
+ruleset rules = (needs, digits-length)
 
 mul-len : tie.Need-mul-len
 mul-len c = search rules
