@@ -77,6 +77,13 @@ module _ (mark : ℕ) (k : Key) where
   pub some-written : (d w : List ℕ) → (length k ≡ 0 → ⊥) → w ≡ into (hex k) d → w ≡ into (hexOr mark k) d
   some-written d w h e = e ∙ ap (λ (t : List ℕ). into t d) (some-text h)
 
+-- whatever the mark, it is as long as the text of a key and of an edge
+marked-length : (mark n end : ℕ) (k : Key) → n ≡ length (field (hexOr mark k) end)
+    → (n ≡ length (field (keyText k) end)) × (n ≡ length (field (edgeText (edge k)) end))
+unfolding field hexOr keyText edgeText dash dot
+marked-length mark n end [] h = (h, h)
+marked-length mark n end (b ∷ k) h = (h, h)
+
 -- where the mark is `-` it is the text of a key, and where it is `.` that of an edge
 key-is : (k : Key) → hexOr 0x2d k ≡ keyText k
 unfolding hexOr keyText dash
@@ -132,9 +139,9 @@ module _ (r : List ℕ) (t : Bool) (e : t ≡ eqb (lengthField r) maxMark) where
   unfolding field elementText maxWord
   max-written d w h f = rw (is-max h) f
 
-  pub pivot-length : (n : ℕ) (k : Key) → k ≡ keyBytes r → t ≡ false → n ≡ length (field (hexOr 0x2d k) tab) → n ≡ length (pivotField r)
+  pub pivot-length : (mark n : ℕ) (k : Key) → k ≡ keyBytes r → t ≡ false → n ≡ length (field (hexOr mark k) tab) → n ≡ length (pivotField r)
   unfolding elementText
-  pivot-length n k g h f = rw (is-key h, ← g, ← key-is k) f
+  pivot-length mark n k g h f = rw (is-key h, ← g) (marked-length mark n tab k f .0)
 
   pub pivot-written : (k : Key) (d w : List ℕ) → k ≡ keyBytes r → t ≡ false → w ≡ into (field (hexOr 0x2d k) tab) d
       → w ≡ into (pivotField r) d
@@ -155,16 +162,16 @@ module _ (l r : List ℕ) (t : Bool) (e : t ≡ eqb (lengthField l) maxMark) whe
   the-prefix : (n : ℕ) (k : Key) → k ≡ keyBytes l → t ≡ false → n ≡ length (PivotLcp (key k) (element r)) → take n k ≡ PivotLcp (element l) (element r)
   the-prefix n k g h f = rw (is-key l t e h, ← g, f) (prefix-is-take (PivotLcp (key k) (element r)) k (prefix-of-left k (element r)))
 
-  pub no-prefix-length : (n : ℕ) → t ≡ true → n ≡ length (field (hexOr 0x2d []) tab) → n ≡ length (sharedField l r)
-  no-prefix-length n h f = rw (no-prefix h, ← key-is []) f
+  pub no-prefix-length : (mark n : ℕ) → t ≡ true → n ≡ length (field (hexOr mark []) tab) → n ≡ length (sharedField l r)
+  no-prefix-length mark n h f = rw (no-prefix h) (marked-length mark n tab [] f .0)
 
   pub no-prefix-written : (d w : List ℕ) → t ≡ true → w ≡ into (field (hexOr 0x2d []) tab) d
       → w ≡ into (sharedField l r) d
   no-prefix-written d w h f = rw (no-prefix h, ← key-is []) f
 
-  pub prefix-length : (n m : ℕ) (k : Key) → k ≡ keyBytes l → t ≡ false → n ≡ length (PivotLcp (key k) (element r))
-      → m ≡ length (field (hexOr 0x2d (take n k)) tab) → m ≡ length (sharedField l r)
-  prefix-length n m k g h f q = rw (← the-prefix n k g h f, ← key-is (take n k)) q
+  pub prefix-length : (mark n m : ℕ) (k : Key) → k ≡ keyBytes l → t ≡ false → n ≡ length (PivotLcp (key k) (element r))
+      → m ≡ length (field (hexOr mark (take n k)) tab) → m ≡ length (sharedField l r)
+  prefix-length mark n m k g h f q = rw (← the-prefix n k g h f) (marked-length mark m tab (take n k) q .0)
 
   pub prefix-written : (n : ℕ) (k : Key) (d w : List ℕ) → k ≡ keyBytes l → t ≡ false → n ≡ length (PivotLcp (key k) (element r))
       → w ≡ into (field (hexOr 0x2d (take n k)) tab) d → w ≡ into (sharedField l r) d
@@ -189,8 +196,8 @@ module _ (r : List ℕ) (t : Bool) (e : t ≡ eqb (lengthField r) noEdgeMark) wh
   unfolding field edgeText dash
   no-edge-written d w h f = rw (is-none h) f
 
-  pub edge-length : (n : ℕ) (k : Key) → k ≡ keyBytes r → t ≡ false → n ≡ length (field (hexOr 0x2e k) newline) → n ≡ length (edgeField r)
-  edge-length n k g h f = rw (is-edge h, ← g, ← edge-is k) f
+  pub edge-length : (mark n : ℕ) (k : Key) → k ≡ keyBytes r → t ≡ false → n ≡ length (field (hexOr mark k) newline) → n ≡ length (edgeField r)
+  edge-length mark n k g h f = rw (is-edge h, ← g) (marked-length mark n newline k f .1)
 
   pub edge-written : (k : Key) (d w : List ℕ) → k ≡ keyBytes r → t ≡ false → w ≡ into (field (hexOr 0x2e k) newline) d
       → w ≡ into (edgeField r) d
