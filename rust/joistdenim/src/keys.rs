@@ -1,11 +1,9 @@
 //! The calls on single keys.
 use crate::lend::lend;
 use crate::raw;
+use crate::record::KEY_AT;
 use crate::refusal::Refusal;
 use std::cmp::Ordering;
-
-/// A record's key begins after its length field.
-pub(crate) const KEY_AT: usize = 2;
 
 /// The order of two elements. Refuses 1, 2.
 pub fn compare(a: &[u8], b: &[u8]) -> Result<Ordering, Refusal> {

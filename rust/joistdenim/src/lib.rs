@@ -2,11 +2,13 @@
 //!
 //! A record has 66 bytes: a length field of two bytes, high byte first, and 64 bytes, zero after
 //! the key. Length 0 to 64 is a key, 65,534 "no edge", 65,535 "max". A key or prefix argument is
-//! lent as its bytes alone. A pair, an old prefix and a new one, has 133 bytes; `Pair` is one as a
-//! value. An entry is a record with a key and a number of four bytes, high byte first; an index has
-//! a place of two bytes, high byte first, for each pivot. Every call answers `Ok`, or the first
-//! refusal that applies over all arguments, in the order in which the call names them; a refusal
-//! changes no byte of a destination.
+//! lent as its bytes alone. A pair, an old prefix and a new one, has 133 bytes. An entry is a record
+//! with a key and a number of four bytes, high byte first; an index has a place of two bytes, high
+//! byte first, for each pivot. Every call answers `Ok`, or the first refusal that applies over all
+//! arguments, in the order in which the call names them; a refusal changes no byte of a destination.
+//!
+//! `Key`, `Element`, `Edge`, `Table`, `Bucket` and `Pair` are such bytes as values. They are checked
+//! when they are made, and have the calls as methods; all but a pair are read and printed as text.
 //!
 //! ```
 //! let mut dest = [0; 64];
@@ -15,25 +17,39 @@
 //! # Ok::<(), joistdenim::Refusal>(())
 //! ```
 
+mod bucket;
 mod buckets;
 mod cuts;
+mod edge;
+mod element;
 mod index;
+mod key;
 mod keys;
 mod lend;
+mod lines;
 mod list;
+mod list_text;
 mod pair;
 mod pairs;
 pub mod raw;
+mod record;
 mod refusal;
 mod renaming;
+mod table;
 mod tables;
+mod text;
 
+pub use bucket::{Bucket, Entry};
 pub use buckets::{translate_bucket, translate_bucket_will_fit};
 pub use cuts::{insert_pivot, join, split_left, split_right, translate_key};
+pub use edge::Edge;
+pub use element::Element;
 pub use index::{
     build_index, check_index, cut_index_left, cut_index_right, slot_entries, translate_index,
 };
+pub use key::Key;
 pub use keys::{change_prefix, compare, entry_key, pivot_key, pivot_lcp, shortest_uncommon_prefix};
+pub use lines::ListError;
 pub use list::list_table;
 pub use pair::Pair;
 pub use pairs::{apply_pair, compose_pairs, reverse_pair, translate};
@@ -41,10 +57,12 @@ pub use refusal::Refusal;
 pub use renaming::{
     parent_keys_in_child_range, translate_edges, translate_pivot_pair, translate_pivots,
 };
+pub use table::{Slot, Table};
 pub use tables::{
     bounded_key, contains_all_keys, contains_range, cutoff_for_left, cutoff_for_right, get_key,
     init_pivot_table, pivot_insertable, route, valid_left_cut_off_key, wf_edges, wf_pivots,
 };
+pub use text::TextError;
 
 /// The longest key, in bytes.
 pub const MAX_LEN: usize = 64;
@@ -61,3 +79,5 @@ pub const MAX_ENTRIES: usize = 512;
 pub const PLACE_SIZE: usize = 2;
 /// The bytes of a pair: a flag, two lengths of two bytes, and two prefixes in 64 bytes each.
 pub const PAIR_SIZE: usize = 5 + 2 * MAX_LEN;
+/// The bytes of the longest list of a table.
+pub const MAX_LIST: usize = 32_715;

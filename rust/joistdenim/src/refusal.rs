@@ -50,7 +50,8 @@ impl Refusal {
         })
     }
 
-    fn text(self) -> &'static str {
+    /// What it means, for any call that has it.
+    pub fn meaning(self) -> &'static str {
         match self {
             Refusal::Shape => "a slice isn't the records, entries or pair it should be",
             Refusal::Malformed => {
@@ -77,7 +78,7 @@ impl Refusal {
 
 impl fmt::Display for Refusal {
     fn fmt(&self, f: &mut fmt::Formatter<'_>) -> fmt::Result {
-        write!(f, "refusal {}: {}", self.number(), self.text())
+        write!(f, "refusal {}: {}", self.number(), self.meaning())
     }
 }
 

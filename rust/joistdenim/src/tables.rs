@@ -1,8 +1,8 @@
 //! The calls on tables. Pivots are 2 to 64 records: keys that rise strictly, the last may be max.
 //! Edges are one record fewer: a key or "no edge".
-use crate::keys::KEY_AT;
 use crate::lend::lend;
 use crate::raw;
+use crate::record::KEY_AT;
 use crate::refusal::Refusal;
 use crate::RECORD_SIZE;
 

@@ -1,0 +1,124 @@
+//! The arguments of a command: options, and the rest in turn.
+use crate::failure::Failure;
+use crate::pages::Page;
+use joistdenim::{Key, Refusal, TextError};
+use std::ffi::{OsStr, OsString};
+use std::os::unix::ffi::OsStrExt;
+
+/// Standard input, or standard output, in place of a file.
+pub const STREAM: &str = "-";
+
+pub struct Arguments {
+    page: &'static Page,
+    flags: Vec<&'static str>,
+    pub help: bool,
+    pub output: Option<OsString>,
+    pub rest: Vec<OsString>,
+}
+
+/// The options are those of the page, in any place before a `--`.
+pub fn read(page: &'static Page, words: &[OsString]) -> Result<Arguments, Failure> {
+    let mut arguments = Arguments {
+        page,
+        flags: vec![],
+        help: false,
+        output: None,
+        rest: vec![],
+    };
+    let mut words = words.iter();
+    while let Some(word) = words.next() {
+        match &*word.to_string_lossy() {
+            "--" => {
+                arguments.rest.extend(words.cloned());
+                break;
+            }
+            "-h" | "--help" => arguments.help = true,
+            "-o" if page.writes() => {
+                let missing = || arguments.wrong("-o needs a file");
+                arguments.output = Some(words.next().ok_or_else(missing)?.clone());
+            }
+            option if option.starts_with('-') && option != STREAM => {
+                let unknown = || arguments.wrong(format!("there is no option {option:?}"));
+                let flag = page.flag(option).ok_or_else(unknown)?;
+                arguments.flags.push(flag);
+            }
+            _ => arguments.rest.push(word.clone()),
+        }
+    }
+    Ok(arguments)
+}
+
+impl Arguments {
+    pub fn has(&self, flag: &str) -> bool {
+        self.flags.contains(&flag)
+    }
+
+    /// Wrong usage of this command.
+    pub fn wrong(&self, text: impl Into<String>) -> Failure {
+        Failure::usage(text, format!("{} --help", self.page.name))
+    }
+
+    /// Exactly so many arguments.
+    pub fn exactly<const N: usize>(&self, wanted: &str) -> Result<[&OsStr; N], Failure> {
+        let rest: Vec<&OsStr> = self.rest.iter().map(OsString::as_os_str).collect();
+        let name = self.page.name;
+        let wrong = |_| self.wrong(format!("{name} takes {wanted}"));
+        rest.try_into().map_err(wrong)
+    }
+
+    /// Standard input may stand for one of them at most.
+    pub fn one_stream(&self) -> Result<(), Failure> {
+        match self.rest.iter().filter(|name| *name == STREAM).count() {
+            0 | 1 => Ok(()),
+            _ => Err(self.wrong("standard input can be read only once")),
+        }
+    }
+
+    /// A key in hexadecimal, or with `--text` as it is written.
+    pub fn key(&self, word: &OsStr) -> Result<Key, Failure> {
+        let wrong = |text| self.wrong(format!("{word:?} is no key: {text}"));
+        match read_key(word.as_bytes(), self.has("--text")) {
+            Ok(key) => Ok(key),
+            Err(Unread::Refused { refusal, text, .. }) => Err(Failure::Refused(refusal, text)),
+            Err(Unread::Text { text, .. }) => Err(wrong(text)),
+        }
+    }
+}
+
+/// Why bytes aren't a key: by the library, or because from a column on they aren't hexadecimal.
+pub enum Unread {
+    Refused {
+        refusal: Refusal,
+        digits: String,
+        text: String,
+    },
+    Text {
+        column: usize,
+        text: String,
+    },
+}
+
+pub fn read_key(bytes: &[u8], as_written: bool) -> Result<Key, Unread> {
+    let refused = |refusal, digits: String| {
+        let length = digits.len() / 2;
+        let text = format!("a key has at most 64 bytes, and this one has {length}");
+        Unread::Refused {
+            refusal,
+            digits,
+            text,
+        }
+    };
+    if as_written {
+        let digits = || bytes.iter().map(|byte| format!("{byte:02x}")).collect();
+        return Key::try_from(bytes).map_err(|refusal| refused(refusal, digits()));
+    }
+    let text = String::from_utf8_lossy(bytes);
+    let key: Result<Key, TextError> = text.parse();
+    key.map_err(|error| match error.refusal() {
+        Some(refusal) => refused(refusal, text.to_ascii_lowercase()),
+        None => Unread::Text {
+            column: error.place() + 1,
+            text: error.to_string(),
+        },
+    })
+}

@@ -1,0 +1,77 @@
+//! What is written: to standard output, or to a file, whole or not at all.
+use crate::arguments::{Arguments, STREAM};
+use crate::failure::{Done, Failure};
+use crate::Streams;
+use std::ffi::OsStr;
+use std::fs::{self, File, OpenOptions};
+use std::io::{self, ErrorKind, Write};
+use std::path::{Path, PathBuf};
+
+/// Prints it all now; the status is 0.
+pub fn print(streams: &mut Streams, text: &[u8]) -> Done {
+    let output = &mut streams.output;
+    match output.write_all(text).and_then(|()| output.flush()) {
+        Ok(()) => Ok(0),
+        Err(error) if error.kind() == ErrorKind::BrokenPipe => Err(Failure::Closed),
+        Err(error) => Err(Failure::File(format!("standard output: {error}"))),
+    }
+}
+
+/// Writes text where the arguments say.
+pub fn text(text: &str, arguments: &Arguments, streams: &mut Streams) -> Done {
+    match file_of(arguments) {
+        Some(path) => replace(path, text.as_bytes()),
+        None => print(streams, text.as_bytes()),
+    }
+}
+
+/// Writes bytes, which are nothing for a terminal.
+pub fn bytes(bytes: &[u8], arguments: &Arguments, streams: &mut Streams) -> Done {
+    match file_of(arguments) {
+        Some(path) => replace(path, bytes),
+        None if streams.terminal => {
+            Err(arguments.wrong("the result is bytes and not for a terminal: give -o FILE"))
+        }
+        None => print(streams, bytes),
+    }
+}
+
+fn file_of(arguments: &Arguments) -> Option<&OsStr> {
+    let path = arguments.output.as_deref();
+    path.filter(|path| *path != STREAM)
+}
+
+/// A new file beside the old one, which takes its place once it is whole.
+fn replace(path: &OsStr, bytes: &[u8]) -> Done {
+    let failed = |error: io::Error| Failure::File(format!("{}: {error}", path.to_string_lossy()));
+    let place = place_of(Path::new(path)).map_err(failed)?;
+    let mut name = place.file_name().unwrap_or_default().to_os_string();
+    name.push(format!(".{}.new", std::process::id()));
+    let new = place.with_file_name(name);
+    let written = write_new(&new, &place, bytes).and_then(|()| fs::rename(&new, &place));
+    written.map_err(|error| {
+        // It may not be there.
+        let _ = fs::remove_file(&new);
+        failed(error)
+    })?;
+    Ok(0)
+}
+
+/// Where the file itself is, or shall be: a link stays a link.
+fn place_of(path: &Path) -> io::Result<PathBuf> {
+    match fs::canonicalize(path) {
+        Ok(place) if place.is_file() => Ok(place),
+        Ok(_) => Err(io::Error::other("not a file that can be replaced")),
+        Err(error) if error.kind() == ErrorKind::NotFound => Ok(path.to_path_buf()),
+        Err(error) => Err(error),
+    }
+}
+
+fn write_new(new: &Path, old: &Path, bytes: &[u8]) -> io::Result<()> {
+    let mut file: File = OpenOptions::new().write(true).create_new(true).open(new)?;
+    if let Ok(old) = fs::metadata(old) {
+        file.set_permissions(old.permissions())?;
+    }
+    file.write_all(bytes)?;
+    file.sync_all()
+}

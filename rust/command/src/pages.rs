@@ -1,0 +1,179 @@
+//! The commands: what `--help` and the manual page say of each, its options, and what runs it.
+use crate::arguments::Arguments;
+use crate::failure::Done;
+use crate::{bucket, change, check, list, show, table, Streams};
+
+/// A command. Its example is run by a test: lines after `$ `, and what they print.
+pub struct Page {
+    pub name: &'static str,
+    pub usage: &'static str,
+    pub about: &'static str,
+    pub text: &'static [&'static str],
+    pub options: &'static [(&'static str, &'static str)],
+    pub example: &'static str,
+    pub run: fn(&Arguments, &mut Streams) -> Done,
+}
+
+/// What holds for all commands.
+pub struct Section {
+    pub title: &'static str,
+    pub text: &'static [&'static str],
+}
+
+/// The page of a command.
+pub fn page(name: &str) -> Option<&'static Page> {
+    PAGES.iter().find(|page| page.name == name)
+}
+
+impl Page {
+    /// An option without an argument.
+    pub fn flag(&self, option: &str) -> Option<&'static str> {
+        let flags = self.options.iter().map(|(flag, _)| *flag);
+        flags.into_iter().find(|flag| *flag == option)
+    }
+
+    /// Whether it takes the option for a file that is written.
+    pub fn writes(&self) -> bool {
+        self.options.contains(&FILE)
+    }
+}
+
+const FILE: (&str, &str) = ("-o FILE", "writes to a file, whole or not at all");
+const TEXT: (&str, &str) = (
+    "--text",
+    "takes keys as they are written, not in hexadecimal",
+);
+
+pub const PAGES: &[Page] = &[
+    Page {
+        name: "list",
+        usage: "TABLE [-o FILE]",
+        about: "prints the list of a table",
+        text: &[
+            "Prints the list of a table, a line for each slot: its number, its bounds, the prefix that all its keys share, and its edge, the prefix that replaces it. It is what list_table writes, byte for byte.",
+        ],
+        options: &[FILE],
+        example: include_str!("pages/list.txt"),
+        run: list::run,
+    },
+    Page {
+        name: "table",
+        usage: "[LIST] [-o FILE]",
+        about: "makes a table of its list, or of the short form",
+        text: &[
+            "Makes a table of its list: the way back from 'joistdenim list'. Without LIST, or with -, it reads standard input.",
+            "The fields left, right and edge decide. Where slot, shared or a right bound doesn't agree with them, or something can't be read, the line and the column are told.",
+            "In the short form a line has left and edge alone, and the last line the end, a key or max.",
+        ],
+        options: &[FILE],
+        example: include_str!("pages/table.txt"),
+        run: table::run,
+    },
+    Page {
+        name: "show",
+        usage: "[--text] [--tsv] TABLE KEY..",
+        about: "shows what becomes of keys",
+        text: &[
+            "Shows for each key its slot and range, the prefix that the slot's keys share, the edge and the renamed key. What was replaced and what stands in its place is marked: by colour on a terminal, else by a line below.",
+            "A key that is refused is told on standard error, and the status is 1.",
+            "With - in place of a key it reads keys from standard input, one a line, and answers each before it reads the next. There, and with --tsv, a refusal stands on standard output in the key's place, so that each key has its answer, and the status is 0. A line that is no key is told in its place and on standard error; the status is 2 then.",
+        ],
+        options: &[
+            TEXT,
+            ("--tsv", "a header and a row for each key, fields parted by tabs"),
+        ],
+        example: include_str!("pages/show.txt"),
+        run: show::run,
+    },
+    Page {
+        name: "cut",
+        usage: "left|right [--text] TABLE KEY [-o FILE]",
+        about: "cuts a table at a key",
+        text: &[
+            "Writes the table of what lies below the key, the left cut, or from the key on, the right cut. Keys that are kept are renamed as before.",
+        ],
+        options: &[TEXT, FILE],
+        example: include_str!("pages/cut.txt"),
+        run: change::cut,
+    },
+    Page {
+        name: "insert",
+        usage: "[--text] TABLE KEY [-o FILE]",
+        about: "puts a key into a table as a new pivot",
+        text: &[
+            "Writes the table with the key as a new pivot, which divides the slot that it lies in. Every key is renamed as before.",
+        ],
+        options: &[TEXT, FILE],
+        example: include_str!("pages/insert.txt"),
+        run: change::insert,
+    },
+    Page {
+        name: "join",
+        usage: "FIRST SECOND [-o FILE]",
+        about: "puts two tables together",
+        text: &[
+            "Writes the table of both, where the first ends with the pivot that the second begins with. Every key is renamed as by the one that it lies in.",
+        ],
+        options: &[FILE],
+        example: include_str!("pages/join.txt"),
+        run: change::join,
+    },
+    Page {
+        name: "check",
+        usage: "TABLE..",
+        about: "says whether tables are well formed",
+        text: &[
+            "Says for each table whether it is well formed, and how large it is; or the refusal, and the first slot that has it.",
+        ],
+        options: &[],
+        example: include_str!("pages/check.txt"),
+        run: check::run,
+    },
+    Page {
+        name: "bucket",
+        usage: "translate [--text] [--bytes] [--report] OLD NEW BUCKET [-o FILE]",
+        about: "renames the keys of a bucket",
+        text: &[
+            "Writes the entries whose key begins with the prefix OLD, in their order, with NEW in its place, and says on standard error how many were kept and how many skipped. If a renamed key would pass 64 bytes nothing is written, and those that would are told.",
+        ],
+        options: &[
+            ("--text", "takes OLD and NEW as they are written"),
+            ("--bytes", "reads and writes entries of 70 bytes, not text"),
+            ("--report", "a row for each entry: kept, skipped or too long"),
+            FILE,
+        ],
+        example: include_str!("pages/bucket.txt"),
+        run: bucket::run,
+    },
+];
+
+pub const ABOUT: &[Section] = &[
+    Section {
+        title: "Tables",
+        text: &[
+            "TABLE is a file with the count of the pivots in two bytes, high byte first, then the pivots and the edges, records of 66 bytes. In its place - is standard input. 'joistdenim table' makes one of text.",
+        ],
+    },
+    Section {
+        title: "Keys",
+        text: &[
+            "A key has at most 64 bytes, here in hexadecimal, two digits a byte. The empty key is - in texts and for cut, insert and bucket; for show, where - is standard input, it is ''. The end of a table may be max, which is above every key. In the column of edges - is no edge, and . the empty one.",
+        ],
+    },
+    Section {
+        title: "Texts",
+        text: &[
+            "In lists and buckets spaces may stand for tabs; blank lines are passed over, and so is what follows a #. A bucket has a line for each entry: the key, a tab, and a number.",
+        ],
+    },
+    Section {
+        title: "Exit status",
+        text: &[
+            "0: done. 1: refused by the library, with 'refused N: what it means' on standard error. 2: wrong usage, or a file that can't be read or written. After 1 and 2 no file is changed. A closed pipe ends the command quietly.",
+        ],
+    },
+    Section {
+        title: "Environment",
+        text: &["NO_COLOR, if set and not empty, turns colour off; so does TERM=dumb."],
+    },
+];

@@ -1,0 +1,102 @@
+//! Why a text can't be read.
+use crate::key::Key;
+use crate::refusal::Refusal;
+use crate::text::TextError;
+use std::error::Error;
+use std::fmt;
+
+/// Why a text isn't the list of a table, or a bucket, and where: the line and the column, in
+/// characters, both from 1.
+#[derive(Clone, Debug, PartialEq, Eq)]
+pub struct ListError {
+    pub(crate) place: Place,
+    pub(crate) fault: Fault,
+}
+
+/// A place in a text.
+#[derive(Clone, Copy, Debug, Default, PartialEq, Eq)]
+pub struct Place {
+    pub line: usize,
+    pub column: usize,
+}
+
+#[derive(Clone, Debug, PartialEq, Eq)]
+pub enum Fault {
+    Text(TextError),
+    /// By the library: what was read is no table, or no bucket.
+    Refused(Refusal),
+    /// The line of a refused input.
+    NoList,
+    /// So many fields in place of five.
+    Fields(usize),
+    /// A field too many in the short form.
+    ThirdField,
+    /// This is another slot.
+    Slot(usize),
+    /// The next slot begins here.
+    Right(Key),
+    /// The keys of the slot share this.
+    Shared(Key),
+    AfterEnd,
+    NoEnd,
+    /// So many fields in place of a key and a number.
+    Entry(usize),
+    Number,
+}
+
+impl ListError {
+    pub fn line(&self) -> usize {
+        self.place.line
+    }
+
+    pub fn column(&self) -> usize {
+        self.place.column
+    }
+
+    /// The library's refusal of what was read, where that is the reason: 1 for too few or too many
+    /// pivots or entries, 2 for a key over 64 bytes, 3, 4.
+    pub fn refusal(&self) -> Option<Refusal> {
+        match &self.fault {
+            Fault::Text(error) => error.refusal(),
+            Fault::Refused(refusal) => Some(*refusal),
+            _ => None,
+        }
+    }
+
+    /// What is wrong, without the place.
+    pub fn reason(&self) -> String {
+        match &self.fault {
+            Fault::Text(error) => error.to_string(),
+            Fault::Refused(refusal) => refusal.to_string(),
+            Fault::NoList => "this says that a table was refused, and is no list".into(),
+            Fault::Fields(count) => {
+                format!("a line of the list has 5 fields, and this has {count}")
+            }
+            Fault::ThirdField => "a line has a left bound and an edge, or the end alone".into(),
+            Fault::Slot(number) => format!("this is slot {number}"),
+            Fault::Right(left) => {
+                format!("the next slot begins with {left}, so this one ends there")
+            }
+            Fault::Shared(shared) => format!("what the keys of this slot share is {shared}"),
+            Fault::AfterEnd => {
+                "the line before has no edge and is the end, so no line follows".into()
+            }
+            Fault::NoEnd => {
+                "the last line is missing, with the end of the table: a key or max".into()
+            }
+            Fault::Entry(count) => {
+                format!("a line of a bucket has a key and a number, and this has {count} fields")
+            }
+            Fault::Number => format!("a number goes from 0 to {}", u32::MAX),
+        }
+    }
+}
+
+impl fmt::Display for ListError {
+    fn fmt(&self, f: &mut fmt::Formatter<'_>) -> fmt::Result {
+        let Place { line, column } = self.place;
+        write!(f, "line {line}, column {column}: {}", self.reason())
+    }
+}
+
+impl Error for ListError {}

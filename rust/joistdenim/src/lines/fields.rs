@@ -1,0 +1,60 @@
+//! The fields of a text, by lines.
+use super::error::{Fault, ListError, Place};
+use crate::text::TextError;
+use std::str::FromStr;
+
+#[derive(Clone, Copy)]
+pub struct Field<'a> {
+    pub text: &'a str,
+    pub place: Place,
+}
+
+/// The lines that have fields, and where the text ends.
+pub struct Rows<'a> {
+    pub rows: Vec<Vec<Field<'a>>>,
+    pub end: Place,
+}
+
+/// Blank lines, what follows a `#`, and a byte order mark are passed over.
+pub fn rows(text: &str) -> Rows<'_> {
+    let text = text.strip_prefix('\u{feff}').unwrap_or(text);
+    let lines = text.lines().zip(1..);
+    let rows = lines.map(|(text, line)| fields(text, line));
+    let end = Place {
+        line: text.lines().count() + 1,
+        column: 1,
+    };
+    Rows {
+        rows: rows.filter(|row| !row.is_empty()).collect(),
+        end,
+    }
+}
+
+fn fields(text: &str, line: usize) -> Vec<Field<'_>> {
+    let text = text.split('#').next().unwrap_or_default();
+    let mut column = 1;
+    let mut fields = vec![];
+    for text in text.split(char::is_whitespace) {
+        let place = Place { line, column };
+        fields.push(Field { text, place });
+        column += text.chars().count() + 1;
+    }
+    fields.retain(|field| !field.text.is_empty());
+    fields
+}
+
+impl Field<'_> {
+    pub fn fault(&self, fault: Fault) -> ListError {
+        let place = self.place;
+        ListError { place, fault }
+    }
+
+    /// What the field says. A fault in it has its own column.
+    pub fn read<T: FromStr<Err = TextError>>(&self) -> Result<T, ListError> {
+        self.text.parse().map_err(|error: TextError| {
+            let mut fault = self.fault(Fault::Text(error));
+            fault.place.column += error.place();
+            fault
+        })
+    }
+}

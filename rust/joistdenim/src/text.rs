@@ -1,0 +1,80 @@
+//! Keys, elements and edges as the list of a table has them: hexadecimal, or a mark.
+use crate::key::Key;
+use crate::refusal::Refusal;
+use std::error::Error;
+use std::fmt;
+
+/// What stands in place of digits.
+pub const EMPTY_KEY: &str = "-";
+pub const MAX: &str = "max";
+pub const NO_EDGE: &str = "-";
+pub const EMPTY_EDGE: &str = ".";
+
+/// Why a text is no key, element or edge.
+#[derive(Clone, Copy, Debug, PartialEq, Eq)]
+#[non_exhaustive]
+pub enum TextError {
+    /// After so many characters comes one that is no hexadecimal digit.
+    NoDigit { place: usize, found: char },
+    /// After so many digits the second one of a byte is missing.
+    HalfByte { place: usize },
+    /// A key over 64 bytes.
+    Refused(Refusal),
+}
+
+impl TextError {
+    /// After how many characters of the text it shows.
+    pub fn place(&self) -> usize {
+        match *self {
+            TextError::NoDigit { place, .. } | TextError::HalfByte { place } => place,
+            TextError::Refused(_) => 0,
+        }
+    }
+
+    pub fn refusal(&self) -> Option<Refusal> {
+        match *self {
+            TextError::Refused(refusal) => Some(refusal),
+            _ => None,
+        }
+    }
+}
+
+impl fmt::Display for TextError {
+    fn fmt(&self, f: &mut fmt::Formatter<'_>) -> fmt::Result {
+        match self {
+            TextError::NoDigit { found, .. } => write!(f, "{found:?} is no hexadecimal digit"),
+            TextError::HalfByte { .. } => write!(f, "a byte has two digits, and the last has one"),
+            TextError::Refused(refusal) => write!(f, "{refusal}"),
+        }
+    }
+}
+
+impl Error for TextError {}
+
+/// The key of hexadecimal digits.
+pub fn key_of(digits: &str) -> Result<Key, TextError> {
+    let mut bytes = vec![];
+    let mut high = None;
+    for (place, found) in digits.chars().enumerate() {
+        let no_digit = TextError::NoDigit { place, found };
+        let digit = found.to_digit(16).ok_or(no_digit)? as u8;
+        match high.take() {
+            None => high = Some(digit << 4),
+            Some(high) => bytes.push(high | digit),
+        }
+    }
+    match high {
+        None => Key::try_from(&bytes[..]).map_err(TextError::Refused),
+        Some(_) => Err(TextError::HalfByte {
+            place: digits.len(),
+        }),
+    }
+}
+
+/// The digits of a key, or what stands for the empty one.
+pub fn write_key(f: &mut fmt::Formatter<'_>, key: &Key, empty: &str) -> fmt::Result {
+    match key.as_bytes() {
+        [] => f.pad(empty),
+        bytes => f.pad(&bytes.iter().map(|b| format!("{b:02x}")).collect::<String>()),
+    }
+}
