@@ -39,7 +39,7 @@ pub fn one(page: &Page) -> String {
     }
     text += "\nExample:\n";
     for line in page.example.lines() {
-        let _ = writeln!(text, "  {line}");
+        let _ = writeln!(text, "{}", format!("  {line}").trim_end());
     }
     text
 }

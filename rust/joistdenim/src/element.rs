@@ -16,7 +16,7 @@ use std::str::FromStr;
 ///
 /// let key: Element = "ff".parse()?;
 /// assert!(key < Element::Max);
-/// assert_eq!(key, Key::try_from(&[0xFF][..])?.into());
+/// assert_eq!(key, Key::try_from(&[0xFF])?.into());
 /// assert_eq!(Element::try_from(&key.record()[..])?, key);
 /// # Ok::<(), Box<dyn std::error::Error>>(())
 /// ```

@@ -18,9 +18,9 @@ use std::str::FromStr;
 ///
 /// let key: Key = "413107".parse()?;
 /// assert_eq!(key.as_bytes(), [0x41, 0x31, 0x07]);
-/// assert!(key < Key::try_from(&b"A2"[..])?);
+/// assert!(key < Key::try_from(b"A2")?);
 /// assert_eq!(Key::EMPTY.to_string(), "-");
-/// assert_eq!(Key::try_from(&[0; 65][..]), Err(Refusal::Malformed));
+/// assert_eq!(Key::try_from(&[0; 65]), Err(Refusal::Malformed));
 /// # Ok::<(), Box<dyn std::error::Error>>(())
 /// ```
 #[derive(Clone, Copy, PartialEq, Eq, Hash)]
@@ -71,6 +71,14 @@ impl TryFrom<&[u8]> for Key {
     fn try_from(bytes: &[u8]) -> Result<Self, Refusal> {
         // With nothing changed to nothing it is itself.
         Key::written(|dest| change_prefix(bytes, &[], &[], dest))
+    }
+}
+
+impl<const N: usize> TryFrom<&[u8; N]> for Key {
+    type Error = Refusal;
+
+    fn try_from(bytes: &[u8; N]) -> Result<Self, Refusal> {
+        Key::try_from(&bytes[..])
     }
 }
 
