@@ -1,7 +1,7 @@
 //! The arguments of a command: options, and the rest in turn.
 use crate::failure::Failure;
 use crate::pages::Page;
-use joistdenim::{Key, Refusal, TextError};
+use joistdenim::{Key, TextError};
 use std::ffi::{OsStr, OsString};
 use std::os::unix::ffi::OsStrExt;
 
@@ -76,49 +76,23 @@ impl Arguments {
 
     /// A key in hexadecimal, or with `--text` as it is written.
     pub fn key(&self, word: &OsStr) -> Result<Key, Failure> {
-        let wrong = |text| self.wrong(format!("{word:?} is no key: {text}"));
-        match read_key(word.as_bytes(), self.has("--text")) {
-            Ok(key) => Ok(key),
-            Err(Unread::Refused { refusal, text, .. }) => Err(Failure::Refused(refusal, text)),
-            Err(Unread::Text { text, .. }) => Err(wrong(text)),
-        }
+        let key = read_key(word.as_bytes(), self.has("--text"));
+        key.map_err(|error| match error.refusal() {
+            Some(refusal) => Failure::Refused(refusal, error.to_string()),
+            None => self.no_key(word, &error),
+        })
+    }
+
+    /// A word that isn't hexadecimal.
+    pub fn no_key(&self, word: &OsStr, error: &TextError) -> Failure {
+        self.wrong(format!("{word:?} is no key: {error}"))
     }
 }
 
-/// Why bytes aren't a key: by the library, or because from a column on they aren't hexadecimal.
-pub enum Unread {
-    Refused {
-        refusal: Refusal,
-        digits: String,
-        text: String,
-    },
-    Text {
-        column: usize,
-        text: String,
-    },
-}
-
-pub fn read_key(bytes: &[u8], as_written: bool) -> Result<Key, Unread> {
-    let refused = |refusal, digits: String| {
-        let length = digits.len() / 2;
-        let text = format!("a key has at most 64 bytes, and this one has {length}");
-        Unread::Refused {
-            refusal,
-            digits,
-            text,
-        }
-    };
+pub fn read_key(bytes: &[u8], as_written: bool) -> Result<Key, TextError> {
     if as_written {
-        let digits = || bytes.iter().map(|byte| format!("{byte:02x}")).collect();
-        return Key::try_from(bytes).map_err(|refusal| refused(refusal, digits()));
+        let length = bytes.len();
+        return Key::try_from(bytes).map_err(|refusal| TextError::Refused { refusal, length });
     }
-    let text = String::from_utf8_lossy(bytes);
-    let key: Result<Key, TextError> = text.parse();
-    key.map_err(|error| match error.refusal() {
-        Some(refusal) => refused(refusal, text.to_ascii_lowercase()),
-        None => Unread::Text {
-            column: error.place() + 1,
-            text: error.to_string(),
-        },
-    })
+    String::from_utf8_lossy(bytes).parse()
 }

@@ -34,7 +34,7 @@ pub fn run(arguments: &Arguments, streams: &mut Streams) -> Done {
 
 fn read(path: &OsStr, arguments: &Arguments, streams: &mut Streams) -> Result<Bucket, Failure> {
     if !arguments.has("--bytes") {
-        return files::of_text(path, streams);
+        return files::of_text(path, "with --bytes entries are read", streams);
     }
     let bytes = files::bytes(path, files::MOST_BUCKET, streams)?;
     let name = files::name_of(path);

@@ -9,8 +9,13 @@ use std::fs::File;
 use std::io::{self, Read};
 use std::str::FromStr;
 
+/// The bytes of a table of so many pivots.
+pub const fn table_size(pivots: usize) -> usize {
+    2 + (2 * pivots - 1) * RECORD_SIZE
+}
+
 /// The bytes of the largest table and bucket; what is longer is refused whatever follows.
-const MOST_TABLE: usize = 2 + (2 * MAX_PIVOTS - 1) * RECORD_SIZE;
+pub const MOST_TABLE: usize = table_size(MAX_PIVOTS);
 pub const MOST_BUCKET: usize = MAX_ENTRIES * ENTRY_SIZE;
 /// The longest text, comments included.
 const MOST_TEXT: usize = 1 << 20;
@@ -43,13 +48,18 @@ pub fn table(path: &OsStr, streams: &mut Streams) -> Result<Table, Failure> {
         .map_err(|refusal| Failure::Refused(refusal, refused::table(&name, &input, refusal)))
 }
 
-/// A table or bucket of a file's text. What isn't UTF-8 may stand in comments.
+/// A table or bucket of a file's text. What isn't UTF-8 may stand in comments. If it is bytes, the
+/// hint says what to do with them.
 pub fn of_text<T: FromStr<Err = ListError>>(
     path: &OsStr,
+    hint: &str,
     streams: &mut Streams,
 ) -> Result<T, Failure> {
     let text = bytes(path, MOST_TEXT, streams)?;
     let name = name_of(path);
+    if text.contains(&0) {
+        return Err(Failure::File(format!("{name} is no text; {hint}")));
+    }
     if text.len() > MOST_TEXT {
         let text = format!("{name}: over {MOST_TEXT} bytes, which is no such text");
         return Err(Failure::File(text));
@@ -59,9 +69,7 @@ pub fn of_text<T: FromStr<Err = ListError>>(
         .map_err(|error: ListError| {
             let place = format!("{name}, line {}, column {}", error.line(), error.column());
             match error.refusal() {
-                Some(refusal) => {
-                    Failure::Refused(refusal, format!("{place}: {}", refusal.meaning()))
-                }
+                Some(refusal) => Failure::Refused(refusal, format!("{place}: {}", error.reason())),
                 None => Failure::File(format!("{place}: {}", error.reason())),
             }
         })

@@ -28,8 +28,8 @@ pub fn page(name: &str) -> Option<&'static Page> {
 impl Page {
     /// An option without an argument.
     pub fn flag(&self, option: &str) -> Option<&'static str> {
-        let flags = self.options.iter().map(|(flag, _)| *flag);
-        flags.into_iter().find(|flag| *flag == option)
+        let mut flags = self.options.iter().map(|(flag, _)| *flag);
+        flags.find(|flag| *flag == option && *flag != FILE.0)
     }
 
     /// Whether it takes the option for a file that is written.
@@ -76,7 +76,7 @@ pub const PAGES: &[Page] = &[
         text: &[
             "Shows for each key its slot and range, the prefix that the slot's keys share, the edge and the renamed key. What was replaced and what stands in its place is marked: by colour on a terminal, else by a line below.",
             "A key that is refused is told on standard error, and the status is 1.",
-            "With - in place of a key it reads keys from standard input, one a line, and answers each before it reads the next. There, and with --tsv, a refusal stands on standard output in the key's place, so that each key has its answer, and the status is 0. A line that is no key is told in its place and on standard error; the status is 2 then.",
+            "With - in place of a key it reads keys from standard input, one a line, and answers each before it reads the next. There, and with --tsv, each key has its answer on standard output, a refused one too, in its place. So has a line that is no key; the status is 2 then.",
         ],
         options: &[
             TEXT,

@@ -1,5 +1,6 @@
 //! What a refusal means for what was asked.
-use joistdenim::{Element, Key, Refusal, Slot, Table};
+use crate::files::{table_size, MOST_TABLE};
+use joistdenim::{Element, Key, Refusal, Slot, Table, MAX_PIVOTS, MIN_PIVOTS};
 
 /// A file that is no table.
 pub fn table(name: &str, input: &[u8], refusal: Refusal) -> String {
@@ -16,13 +17,20 @@ fn shape(name: &str, input: &[u8]) -> String {
     if looks_like_text(input) {
         return format!("{name} is text; 'joistdenim table' makes a table of a list");
     }
-    let length = input.len();
-    match input.split_first_chunk() {
-        Some((count, _)) => {
-            let count = u16::from_be_bytes(*count);
-            format!("{name} has {length} bytes and a count of {count}, which no table has")
-        }
+    let length = match input.len() {
+        length @ ..=MOST_TABLE => length.to_string(),
+        _ => format!("over {MOST_TABLE}"),
+    };
+    let count = input.split_first_chunk();
+    match count.map(|(count, _)| u16::from_be_bytes(*count).into()) {
         None => format!("{name} has {length} bytes, and no table has so few"),
+        Some(count @ MIN_PIVOTS..=MAX_PIVOTS) => {
+            let size = table_size(count);
+            format!("{name} has {length} bytes, and a table of {count} pivots has {size}")
+        }
+        Some(count) => format!(
+            "{name} begins with a count of {count}, and a table has {MIN_PIVOTS} to {MAX_PIVOTS} pivots"
+        ),
     }
 }
 

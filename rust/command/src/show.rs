@@ -1,20 +1,17 @@
 //! `joistdenim show`.
 mod answer;
 mod blocks;
+mod lines;
 mod rows;
 
-use crate::arguments::{read_key, Arguments, Unread, STREAM};
-use crate::failure::{Done, Failure, REFUSED, TROUBLE};
+use crate::arguments::{read_key, Arguments, STREAM};
+use crate::failure::{Done, Failure, REFUSED};
 use crate::{files, output, Streams};
 use answer::{answer, refused, Answer};
 use blocks::Blocks;
-use joistdenim::Table;
+use joistdenim::{Table, TextError};
 use std::ffi::OsStr;
-use std::io::{BufRead, Read};
 use std::os::unix::ffi::OsStrExt;
-
-/// The longest line of keys on standard input; a key has far less.
-const MOST_LINE: u64 = 1 << 16;
 
 pub fn run(arguments: &Arguments, streams: &mut Streams) -> Done {
     let [table, keys @ ..] = &arguments.rest[..] else {
@@ -24,13 +21,16 @@ pub fn run(arguments: &Arguments, streams: &mut Streams) -> Done {
         return Err(arguments.wrong("show takes keys, or - for keys on standard input"));
     }
     arguments.one_stream()?;
+    let as_written = arguments.has("--text");
+    let form = match arguments.has("--tsv") {
+        true => Form::Rows,
+        false => Form::Blocks(Blocks::new(as_written, streams.colour)),
+    };
+    let table = files::table(table, streams)?;
     let mut show = Show {
-        table: files::table(table, streams)?,
-        as_written: arguments.has("--text"),
-        form: match arguments.has("--tsv") {
-            true => Form::Rows,
-            false => Form::Blocks(Blocks::new(arguments.has("--text"), streams.colour)),
-        },
+        table,
+        as_written,
+        form,
         status: 0,
     };
     // Wrong usage is told before anything is shown.
@@ -45,7 +45,8 @@ pub fn run(arguments: &Arguments, streams: &mut Streams) -> Done {
             show.lines(streams)?;
         } else {
             let answer = show.of_argument(key, arguments)?;
-            show.tell(&answer, streams)?;
+            let in_place = matches!(show.form, Form::Rows);
+            show.tell(&answer, in_place, streams)?;
         }
     }
     Ok(show.status)
@@ -65,31 +66,33 @@ enum Form {
 
 impl Show {
     fn of_argument(&self, word: &OsStr, arguments: &Arguments) -> Result<Answer, Failure> {
-        match read_key(word.as_bytes(), self.as_written) {
-            Ok(key) => Ok(answer(&self.table, &key)),
-            Err(Unread::Refused {
-                refusal,
-                digits,
-                text,
-            }) => Ok(refused(digits, refusal, text)),
-            Err(Unread::Text { .. }) => Err(arguments.key(word).unwrap_err()),
-        }
+        let answer = self.of_bytes(word.as_bytes());
+        answer.map_err(|error| arguments.no_key(word, &error))
     }
 
-    /// A refused argument is told on standard error; in rows, which a program reads, in its row.
-    fn tell(&mut self, answer: &Answer, streams: &mut Streams) -> Done {
-        match (&self.form, &answer.renamed) {
-            (Form::Blocks(_), Err((refusal, text))) => {
-                let failure = Failure::Refused(*refusal, text.clone());
-                let _ = write!(streams.errors, "{failure}");
-                self.status = self.status.max(REFUSED);
-                Ok(0)
+    /// What becomes of a key, or its refusal; unless the bytes aren't hexadecimal.
+    fn of_bytes(&self, bytes: &[u8]) -> Result<Answer, TextError> {
+        let error = match read_key(bytes, self.as_written) {
+            Ok(key) => return Ok(answer(&self.table, &key)),
+            Err(error) => error,
+        };
+        let refusal = error.refusal().ok_or(error)?;
+        let digits = match self.as_written {
+            true => bytes.iter().map(|byte| format!("{byte:02x}")).collect(),
+            false => String::from_utf8_lossy(bytes).to_ascii_lowercase(),
+        };
+        Ok(refused(digits, refusal, error.to_string()))
+    }
+
+    /// A refusal is told on standard error. It has its answer on standard output too where each
+    /// key has one, in its place: for keys on standard input, and in rows.
+    fn tell(&mut self, answer: &Answer, in_place: bool, streams: &mut Streams) -> Done {
+        if let Err((refusal, text)) = &answer.renamed {
+            self.fail(&Failure::Refused(*refusal, text.clone()), streams);
+            if !in_place {
+                return Ok(REFUSED);
             }
-            _ => self.print(answer, streams),
         }
-    }
-
-    fn print(&mut self, answer: &Answer, streams: &mut Streams) -> Done {
         let text = match &mut self.form {
             Form::Blocks(blocks) => blocks.block(answer),
             Form::Rows => rows::row(answer),
@@ -97,59 +100,36 @@ impl Show {
         output::print(streams, text.as_bytes())
     }
 
-    /// Keys on standard input, each answered before the next is read. A log of the answers has one
-    /// for each line, a refused key's too.
+    /// Keys on standard input, each answered before the next is read.
     fn lines(&mut self, streams: &mut Streams) -> Done {
         for number in 1.. {
-            let Some(line) = next_line(streams)? else {
+            let Some(line) = lines::next(streams)? else {
                 break;
             };
-            let key = match self.as_written {
-                true => &line[..],
-                false => line.trim_ascii(),
-            };
-            match read_key(key, self.as_written) {
-                Ok(key) => self.print(&answer(&self.table, &key), streams)?,
-                Err(Unread::Refused {
-                    refusal,
-                    digits,
-                    text,
-                }) => self.print(&refused(digits, refusal, text), streams)?,
-                Err(Unread::Text { column, text }) => {
-                    self.status = TROUBLE;
-                    let text = format!("standard input, line {number}, column {column}: {text}");
-                    self.unread(&text, streams)?
-                }
+            match lines::key(&line, self.as_written).and_then(|key| self.of_line(key)) {
+                Ok(answer) => self.tell(&answer, true, streams)?,
+                Err(fault) => self.unread(&fault.at_line(number), streams)?,
             };
         }
         Ok(0)
     }
 
+    fn of_line(&self, key: lines::Key) -> Result<Answer, lines::Fault> {
+        self.of_bytes(key.bytes).map_err(|error| key.fault(&error))
+    }
+
     /// A line that is no key.
     fn unread(&mut self, text: &str, streams: &mut Streams) -> Done {
-        let _ = write!(streams.errors, "{}", Failure::File(text.into()));
+        self.fail(&Failure::File(text.into()), streams);
         let text = match &mut self.form {
             Form::Blocks(blocks) => blocks.unread(text),
             Form::Rows => rows::UNREAD.into(),
         };
         output::print(streams, text.as_bytes())
     }
-}
 
-/// The next line without its end, if there is one.
-fn next_line(streams: &mut Streams) -> Result<Option<Vec<u8>>, Failure> {
-    let mut line = vec![];
-    let mut input = (&mut streams.input).take(MOST_LINE);
-    let read = input.read_until(b'\n', &mut line);
-    read.map_err(|error| Failure::File(format!("standard input: {error}")))?;
-    if line.pop_if(|last| *last == b'\n').is_some() {
-        return Ok(Some(line));
-    }
-    match line.len() as u64 {
-        0 => Ok(None),
-        MOST_LINE => Err(Failure::File(format!(
-            "standard input: a line over {MOST_LINE} bytes"
-        ))),
-        _ => Ok(Some(line)),
+    fn fail(&mut self, failure: &Failure, streams: &mut Streams) {
+        let _ = write!(streams.errors, "{failure}");
+        self.status = self.status.max(failure.status());
     }
 }

@@ -10,6 +10,7 @@ pub fn run(arguments: &Arguments, streams: &mut Streams) -> Done {
         [] => OsStr::new(STREAM),
         _ => arguments.exactly::<1>("one list at most")?[0],
     };
-    let table: Table = files::of_text(path, streams)?;
+    let hint = "'joistdenim list' makes a list of a table";
+    let table: Table = files::of_text(path, hint, streams)?;
     output::bytes(&table.to_bytes(), arguments, streams)
 }

@@ -95,7 +95,8 @@ impl FromStr for Bucket {
         let entries: Result<Vec<Entry>, ListError> = rows.iter().map(|row| entry(row)).collect();
         Bucket::new(&entries?).map_err(|refusal| {
             // Only the number of the entries can be at fault, and so the first too many is there.
-            rows[MAX_ENTRIES][0].fault(Fault::Refused(refusal))
+            let meaning = "a bucket has at most 512 entries";
+            rows[MAX_ENTRIES][0].fault(Fault::Refused(refusal, meaning))
         })
     }
 }

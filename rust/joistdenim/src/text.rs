@@ -1,6 +1,7 @@
 //! Keys, elements and edges as the list of a table has them: hexadecimal, or a mark.
 use crate::key::Key;
 use crate::refusal::Refusal;
+use crate::MAX_LEN;
 use std::error::Error;
 use std::fmt;
 
@@ -18,8 +19,8 @@ pub enum TextError {
     NoDigit { place: usize, found: char },
     /// After so many digits the second one of a byte is missing.
     HalfByte { place: usize },
-    /// A key over 64 bytes.
-    Refused(Refusal),
+    /// By the library: a key of so many bytes, over 64.
+    Refused { refusal: Refusal, length: usize },
 }
 
 impl TextError {
@@ -27,13 +28,13 @@ impl TextError {
     pub fn place(&self) -> usize {
         match *self {
             TextError::NoDigit { place, .. } | TextError::HalfByte { place } => place,
-            TextError::Refused(_) => 0,
+            TextError::Refused { .. } => 0,
         }
     }
 
     pub fn refusal(&self) -> Option<Refusal> {
         match *self {
-            TextError::Refused(refusal) => Some(refusal),
+            TextError::Refused { refusal, .. } => Some(refusal),
             _ => None,
         }
     }
@@ -44,7 +45,10 @@ impl fmt::Display for TextError {
         match self {
             TextError::NoDigit { found, .. } => write!(f, "{found:?} is no hexadecimal digit"),
             TextError::HalfByte { .. } => write!(f, "a byte has two digits, and the last has one"),
-            TextError::Refused(refusal) => write!(f, "{refusal}"),
+            TextError::Refused { length, .. } => write!(
+                f,
+                "a key has at most {MAX_LEN} bytes, and this one has {length}"
+            ),
         }
     }
 }
@@ -64,7 +68,10 @@ pub fn key_of(digits: &str) -> Result<Key, TextError> {
         }
     }
     match high {
-        None => Key::try_from(&bytes[..]).map_err(TextError::Refused),
+        None => Key::try_from(&bytes[..]).map_err(|refusal| TextError::Refused {
+            refusal,
+            length: bytes.len(),
+        }),
         Some(_) => Err(TextError::HalfByte {
             place: digits.len(),
         }),

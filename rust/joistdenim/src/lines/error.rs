@@ -23,8 +23,8 @@ pub struct Place {
 #[derive(Clone, Debug, PartialEq, Eq)]
 pub enum Fault {
     Text(TextError),
-    /// By the library: what was read is no table, or no bucket.
-    Refused(Refusal),
+    /// By the library: what was read is no table, or no bucket; and what that means.
+    Refused(Refusal, &'static str),
     /// The line of a refused input.
     NoList,
     /// So many fields in place of five.
@@ -58,16 +58,16 @@ impl ListError {
     pub fn refusal(&self) -> Option<Refusal> {
         match &self.fault {
             Fault::Text(error) => error.refusal(),
-            Fault::Refused(refusal) => Some(*refusal),
+            Fault::Refused(refusal, _) => Some(*refusal),
             _ => None,
         }
     }
 
-    /// What is wrong, without the place.
+    /// What is wrong, without the place and the refusal's number.
     pub fn reason(&self) -> String {
         match &self.fault {
             Fault::Text(error) => error.to_string(),
-            Fault::Refused(refusal) => refusal.to_string(),
+            Fault::Refused(_, meaning) => (*meaning).into(),
             Fault::NoList => "this says that a table was refused, and is no list".into(),
             Fault::Fields(count) => {
                 format!("a line of the list has 5 fields, and this has {count}")
@@ -95,7 +95,11 @@ impl ListError {
 impl fmt::Display for ListError {
     fn fmt(&self, f: &mut fmt::Formatter<'_>) -> fmt::Result {
         let Place { line, column } = self.place;
-        write!(f, "line {line}, column {column}: {}", self.reason())
+        write!(f, "line {line}, column {column}: ")?;
+        if let Some(refusal) = self.refusal() {
+            write!(f, "refusal {}: ", refusal.number())?;
+        }
+        f.write_str(&self.reason())
     }
 }
 

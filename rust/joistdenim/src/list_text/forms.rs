@@ -117,9 +117,13 @@ impl Read {
             (_, Some(slot)) => self.pivots_at.get(slot + 1),
             (_, None) => self.pivots_at.get(MAX_PIVOTS),
         };
+        let meaning = match refusal {
+            Refusal::Shape => "a table has 2 to 64 pivots",
+            refusal => refusal.meaning(),
+        };
         ListError {
             place: *place.unwrap_or(&self.end),
-            fault: Fault::Refused(refusal),
+            fault: Fault::Refused(refusal, meaning),
         }
     }
 
