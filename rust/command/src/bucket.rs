@@ -9,7 +9,7 @@ use std::fmt::Write;
 pub fn run(arguments: &Arguments, streams: &mut Streams) -> Done {
     let [verb, old, new, path] = arguments.exactly("translate, two prefixes and a bucket")?;
     if verb != "translate" {
-        return Err(arguments.wrong(format!("there is no bucket {verb:?}")));
+        return Err(arguments.wrong(format!("bucket has no command {verb:?}, only translate")));
     }
     let (old, new) = (arguments.key(old)?, arguments.key(new)?);
     let bucket = read(path, arguments, streams)?;

@@ -1,8 +1,6 @@
 //! What documents name in code style though nothing in the repository has that name, and why.
 pub const EXCEPTIONS: &[(&str, &str)] = &[
-    ("code", "the name of the style itself"),
     ("program.c", "a caller's own program"),
-    ("install", "what cargo is asked to do"),
     (
         "bcmp",
         "a C function that the compiler puts in for the reference's prefix test",

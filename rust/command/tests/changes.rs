@@ -1,0 +1,103 @@
+//! `cut`, `insert` and `join`: what they write, and what is refused.
+mod support;
+
+use support::{list, ran, table, Folder, SHORT_T};
+
+/// The short form's table after these arguments, with the table on standard input.
+fn changed(arguments: &str, before: &str) -> Vec<u8> {
+    ran(arguments, table(before)).done()
+}
+
+#[track_caller]
+fn refused(arguments: &str, before: &str, line: &str) {
+    ran(arguments, table(before)).failed(1, &format!("refused {line}"));
+}
+
+#[test]
+fn a_table_is_cut() {
+    assert_eq!(
+        changed("cut left - 4131", SHORT_T),
+        table("4130 4330\n4131\n")
+    );
+    assert_eq!(
+        changed("cut right - 4131", SHORT_T),
+        table("4131 43\n4135 -\n42\n")
+    );
+    assert_eq!(changed("cut left - 42", SHORT_T), table(SHORT_T));
+    assert_eq!(changed("cut right - 4130", SHORT_T), table(SHORT_T));
+    assert_eq!(
+        changed("cut left --text - A1", SHORT_T),
+        changed("cut left - 4131", SHORT_T)
+    );
+    let empty = changed("cut right - -", "- -\n41 -\nmax\n");
+    assert_eq!(empty, table("- -\n41 -\nmax\n"));
+}
+
+#[test]
+fn both_orders_of_two_cuts_leave_the_same() {
+    let low = ran("cut right - 4131", table(SHORT_T)).done();
+    let high = ran("cut left - 4136", table(SHORT_T)).done();
+    let one = ran("cut left - 4136", low).done();
+    let other = ran("cut right - 4131", high).done();
+    assert_eq!(one, other);
+    let text = "slot\tleft\tright\tshared\tedge\n0\t4131\t4135\t41\t43\n1\t4135\t4136\t4135\t-\n";
+    assert_eq!(list(&one), text);
+}
+
+#[test]
+fn a_key_is_inserted() {
+    assert_eq!(
+        changed("insert - 4131", SHORT_T),
+        table("4130 4330\n4131 43\n4135 -\n42\n")
+    );
+    assert_eq!(
+        changed("insert --text - A1", SHORT_T),
+        changed("insert - 4131", SHORT_T)
+    );
+}
+
+#[test]
+fn two_tables_are_joined() {
+    let folder = Folder::new();
+    let low = folder.with("low", changed("cut left - 4131", SHORT_T));
+    let high = changed("cut right - 4131", SHORT_T);
+    let joined = ran(&format!("join {low} -"), &high).done();
+    assert_eq!(joined, changed("insert - 4131", SHORT_T));
+    let high = folder.with("high", high);
+    assert_eq!(ran(&format!("join {low} {high}"), "").done(), joined);
+    let line = "the tables don't meet: the first ends with 42, the second begins with 4130";
+    ran(&format!("join {high} {low}"), "").failed(1, &format!("refused 13: {line}"));
+    let full: String = (0..63).map(|i| format!("40{i:02x} -\n")).collect();
+    let full = folder.with("full", table(&format!("{full}4130\n")));
+    let line = "refused 12: the table would have more than 64 pivots";
+    ran(&format!("join {full} {low}"), "").failed(1, line);
+}
+
+#[test]
+fn a_key_must_be_inside() {
+    let [left, right, inside] = [
+        "5: the key must be above 4130 and not above 42, and",
+        "5: the key must be not below 4130, and below 42, and",
+        "5: the key must be above 4130 and below 42, and",
+    ];
+    refused("cut left - 4130", SHORT_T, &format!("{left} 4130 isn't"));
+    refused("cut left - 4200", SHORT_T, &format!("{left} 4200 isn't"));
+    refused("cut right - 412f", SHORT_T, &format!("{right} 412f isn't"));
+    refused("cut right - 42", SHORT_T, &format!("{right} 42 isn't"));
+    refused("insert - -", SHORT_T, &format!("{inside} - isn't"));
+    refused("insert - 43", SHORT_T, &format!("{inside} 43 isn't"));
+    refused("insert - 4130", SHORT_T, "11: 4130 is already a pivot");
+    refused("insert - 42", SHORT_T, "11: 42 is already a pivot");
+}
+
+#[test]
+fn other_refusals() {
+    let full: String = (0..63).map(|i| format!("41{:02x} -\n", 2 * i)).collect();
+    let full = format!("{full}42\n");
+    let line = "12: the table would have more than 64 pivots";
+    refused("insert - 4101", &full, line);
+    let long = format!("4130 {}\n4135\n", "43".repeat(63));
+    let line = "8: at 4134ff05 an edge would pass 64 bytes";
+    refused("cut right - 4134ff05", &long, line);
+    refused("insert - 4134ff05", &long, line);
+}

@@ -1,0 +1,141 @@
+//! The README, docs/COMMAND.md, the manual page and the examples of `--help`: their lines run, and
+//! print what stands there.
+mod support;
+
+use std::fs;
+use std::os::unix::fs::symlink;
+use support::{ran, root, shell, Folder};
+
+const COMMANDS: [&str; 8] = [
+    "list", "table", "show", "cut", "insert", "join", "check", "bucket",
+];
+
+fn document(path: &str) -> String {
+    fs::read_to_string(root().join(path)).expect(path)
+}
+
+/// The texts between lines of three back quotes.
+fn blocks(document: &str) -> Vec<String> {
+    let mut blocks = vec![];
+    let mut block: Option<String> = None;
+    for line in document.lines() {
+        match (line.starts_with("```"), block.take()) {
+            (true, None) => block = Some(String::new()),
+            (true, Some(whole)) => blocks.push(whole),
+            (false, Some(part)) => block = Some(part + line + "\n"),
+            (false, None) => {}
+        }
+    }
+    blocks
+}
+
+/// A command, which goes on to the end of a text that is given to it, and what it prints.
+struct Step {
+    command: String,
+    printed: String,
+}
+
+/// What stands after `$ ` is a command, and the lines below it are what it prints.
+fn steps(block: &str) -> Vec<Step> {
+    let mut steps: Vec<Step> = vec![];
+    let mut given_up_to: Option<String> = None;
+    for line in block.lines() {
+        if let Some(command) = line.strip_prefix("$ ") {
+            let end = command.split("<<").nth(1);
+            given_up_to = end.map(str::to_string);
+            let (command, printed) = (format!("{command}\n"), String::new());
+            steps.push(Step { command, printed });
+            continue;
+        }
+        let step = steps.last_mut().expect("a block begins with a command");
+        if given_up_to.is_some() {
+            step.command += &format!("{line}\n");
+            given_up_to.take_if(|end| end == line);
+        } else {
+            step.printed += &format!("{line}\n");
+        }
+    }
+    steps
+}
+
+/// Runs the commands in turn, in one folder that has the examples.
+fn run(block: &str) {
+    let folder = Folder::new();
+    symlink(root().join("examples"), folder.at("examples")).expect("a link");
+    let steps = steps(block);
+    assert!(!steps.is_empty());
+    for Step { command, printed } in steps {
+        let ran = shell(&format!("exec 2>&1\n{command}"), folder.path());
+        let got = String::from_utf8(ran.stdout).expect("text");
+        assert_eq!(got, printed, "{command}");
+    }
+}
+
+fn has_commands(block: &&String) -> bool {
+    block.starts_with("$ ")
+}
+
+#[test]
+fn the_readme_runs_as_it_is_printed() {
+    let readme = document("README.md");
+    let section = readme
+        .split("\n## ")
+        .find(|text| text.starts_with("The command\n"));
+    let blocks = blocks(section.expect("the section"));
+    let [block] = &blocks[..] else {
+        panic!("one block shows the command");
+    };
+    assert!(block.contains("joistdenim table t.txt -o t.table\n"));
+    assert_eq!(steps(block).len(), 5);
+    run(block);
+}
+
+#[test]
+fn the_text_of_the_readme_is_the_example() {
+    let text = document("examples/t.txt");
+    assert_eq!(text.lines().count(), 6);
+    assert!(document("README.md").contains(&format!("$ cat >t.txt <<end\n{text}end\n")));
+}
+
+#[test]
+fn examples_of_help_run() {
+    for name in COMMANDS {
+        let page = ran(&format!("{name} --help"), "").text();
+        let (_, example) = page.split_once("\nExample:\n").expect("an example");
+        let lines = example
+            .lines()
+            .map(|line| line.strip_prefix("  ").unwrap_or(line));
+        run(&lines.map(|line| format!("{line}\n")).collect::<String>());
+    }
+}
+
+#[test]
+fn lines_of_the_document_run() {
+    let blocks = blocks(&document("docs/COMMAND.md"));
+    let shown: Vec<&String> = blocks.iter().filter(has_commands).collect();
+    assert_eq!(shown.len(), 4);
+    shown.into_iter().for_each(|block| run(block));
+}
+
+#[test]
+fn the_document_has_the_text_of_help() {
+    let blocks = blocks(&document("docs/COMMAND.md"));
+    let texts = blocks
+        .iter()
+        .filter(|block| block.starts_with("joistdenim"));
+    let mut wanted = vec![ran("--help", "").text()];
+    wanted.extend(COMMANDS.map(|name| ran(&format!("{name} --help"), "").text()));
+    assert_eq!(texts.cloned().collect::<Vec<_>>(), wanted);
+}
+
+#[test]
+fn the_manual_page_is_what_is_printed() {
+    let page = ran("--man", "").text();
+    assert_eq!(document("docs/joistdenim.1"), page);
+    for name in COMMANDS {
+        assert!(page.contains(&format!("\n.SS joistdenim {name} ")));
+    }
+    for section in ["NAME", "SYNOPSIS", "COMMANDS", "EXIT STATUS", "ENVIRONMENT"] {
+        assert!(page.contains(&format!("\n.SH {section}\n")), "{section}");
+    }
+}

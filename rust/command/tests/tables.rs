@@ -1,0 +1,211 @@
+//! `list`, `table` and `check`: round trips, what is refused, and what can't be read.
+mod support;
+
+use std::fs;
+use support::{list, ran, root, table, Folder, LIST_OF_T, SHORT_T};
+
+/// T with other bytes from this place on. A record begins at 2, 68 and 134 for the pivots, at 200
+/// and 266 for the edges.
+fn changed(place: usize, bytes: &[u8]) -> Vec<u8> {
+    let mut t = table(SHORT_T);
+    t[place..][..bytes.len()].copy_from_slice(bytes);
+    t
+}
+
+/// 64 pivots of 64 bytes that rise by one in the last, and as long an edge in each slot.
+fn longest() -> String {
+    let (shared, edge) = ("61".repeat(63), "62".repeat(64));
+    let lines = (0..63).map(|i| format!("{shared}{i:02x} {edge}\n"));
+    lines.collect::<String>() + &format!("{shared}3f\n")
+}
+
+#[test]
+fn the_list_is_the_table_again() {
+    let t = fs::read(root().join("examples/t.table")).expect("T");
+    assert_eq!(list(&t), LIST_OF_T);
+    assert_eq!(table(LIST_OF_T), t);
+    assert_eq!(table(SHORT_T), t);
+    for short in [&longest(), "- -\nmax\n", "ff -\nffff .\nmax\n"] {
+        let made = table(short);
+        let text = list(&made);
+        assert_eq!(table(&text), made);
+        assert_eq!(list(&table(&text)), text);
+    }
+    assert_eq!(list(&table(&longest())).len(), 32_715);
+}
+
+#[test]
+fn tables_are_read_from_files_too() {
+    let folder = Folder::new();
+    let text = folder.with("t.txt", SHORT_T);
+    let t = folder.with("t.table", table(SHORT_T));
+    assert_eq!(ran(&format!("table {text}"), "").done(), table(SHORT_T));
+    assert_eq!(ran("table -", SHORT_T).done(), table(SHORT_T));
+    assert_eq!(ran(&format!("list {t}"), "").text(), LIST_OF_T);
+    assert_eq!(ran("list -", table(SHORT_T)).text(), LIST_OF_T);
+}
+
+#[test]
+fn a_refused_table_has_no_list() {
+    let t = table(SHORT_T);
+    let name = "standard input";
+    let mark = "a malformed record or pair, a wrong mark, or a key over 64 bytes";
+    let cases = [
+        (
+            vec![],
+            format!("1: {name} has 0 bytes, and no table has so few"),
+        ),
+        (
+            vec![0],
+            format!("1: {name} has 1 bytes, and no table has so few"),
+        ),
+        (
+            t[..331].to_vec(),
+            format!("1: {name} has 331 bytes, and a table of 3 pivots has 332"),
+        ),
+        (
+            [&t[..], &[0; 9000]].concat(),
+            format!("1: {name} has over 8384 bytes, and a table of 3 pivots has 332"),
+        ),
+        (
+            changed(0, &[0, 65]),
+            format!("1: {name} begins with a count of 65, and a table has 2 to 64 pivots"),
+        ),
+        (
+            changed(0, &[0, 1]),
+            format!("1: {name} begins with a count of 1, and a table has 2 to 64 pivots"),
+        ),
+        (
+            SHORT_T.into(),
+            format!("1: {name} is text; 'joistdenim table' makes a table of a list"),
+        ),
+        (changed(68, &[0, 65]), format!("2: {name}, slot 0: {mark}")),
+        (changed(199, &[1]), format!("2: {name}, slot 1: {mark}")),
+        (
+            changed(266, &[0xFF, 0xFF]),
+            format!("2: {name}, slot 1: {mark}"),
+        ),
+        (
+            changed(71, b"0"),
+            format!("3: {name}, slot 0: pivots don't rise strictly"),
+        ),
+        (
+            changed(136, b"A"),
+            format!("3: {name}, slot 1: pivots don't rise strictly"),
+        ),
+        (
+            changed(4, b"@"),
+            format!("4: {name}, slot 0: an edge where the range's prefix is empty"),
+        ),
+    ];
+    for (input, text) in cases {
+        for arguments in ["list -", "check -", "show - 4131", "cut left - 4131"] {
+            ran(arguments, &input).failed(1, &format!("refused {text}"));
+        }
+    }
+}
+
+#[test]
+fn a_text_at_fault_is_told_with_line_and_column() {
+    let folder = Folder::new();
+    let with = |old: &str, new: &str| LIST_OF_T.replacen(old, new, 1);
+    let cases = [
+        (
+            with("\t41\t43", "\t42\t43"),
+            "line 2, column 13: what the keys of this slot share is 41",
+        ),
+        (
+            with("1\t4135", "2\t4135"),
+            "line 3, column 1: this is slot 1",
+        ),
+        (
+            with("4135\t41", "4134\t41"),
+            "line 2, column 8: the next slot begins with 4135, so this one ends there",
+        ),
+        (
+            with("4130", "41x0"),
+            "line 2, column 5: 'x' is no hexadecimal digit",
+        ),
+        (
+            with("\t-", ""),
+            "line 3, column 1: a line of the list has 5 fields, and this has 4",
+        ),
+        (
+            "4130 43\n".into(),
+            "line 2, column 1: the last line is missing, with the end of the table: a key or max",
+        ),
+        (
+            "refused\t3\n".into(),
+            "line 1, column 1: this says that a table was refused, and is no list",
+        ),
+        (
+            "\u{e9}\n".into(),
+            "line 1, column 1: 'é' is no hexadecimal digit",
+        ),
+    ];
+    for (text, said) in cases {
+        let line = format!("joistdenim: standard input, {said}");
+        ran("table", &text).failed(2, &line);
+        let path = folder.with("t.txt", &text);
+        let line = format!("joistdenim: {path}, {said}");
+        ran(&format!("table {path}"), "").failed(2, &line);
+    }
+}
+
+#[test]
+fn a_text_may_say_what_is_no_table() {
+    for (text, said) in [
+        (
+            "42\n",
+            "1: standard input, line 2, column 1: a table has 2 to 64 pivots",
+        ),
+        (
+            "41 -\n41 -\nmax\n",
+            "3: standard input, line 2, column 1: pivots don't rise strictly",
+        ),
+        (
+            "41 43\nmax\n",
+            "4: standard input, line 1, column 4: an edge where the range's prefix is empty",
+        ),
+    ] {
+        ran("table", text).failed(1, &format!("refused {said}"));
+    }
+    let long = format!("41 {}\n42\n", "43".repeat(65));
+    let said = "line 1, column 4: a key has at most 64 bytes, and this one has 65";
+    ran("table", long).failed(1, &format!("refused 2: standard input, {said}"));
+}
+
+#[test]
+fn bytes_are_no_text_and_comments_are_any() {
+    let hint = "joistdenim: standard input is no text; 'joistdenim list' makes a list of a table";
+    ran("table", table(SHORT_T)).failed(2, hint);
+    let latin = [&b"# Ausgabe f\xFCr T\n"[..], SHORT_T.as_bytes()].concat();
+    assert_eq!(ran("table", latin).done(), table(SHORT_T));
+    let long = [SHORT_T.as_bytes(), &[b'#'; 1 << 20]].concat();
+    let line = "joistdenim: standard input: over 1048576 bytes, which is no such text";
+    ran("table", &long).failed(2, line);
+    assert_eq!(ran("table", &long[..1 << 20]).done(), table(SHORT_T));
+}
+
+#[test]
+fn tables_are_checked_each() {
+    let folder = Folder::new();
+    let good = folder.with("good", table(SHORT_T));
+    let all = folder.with("all", table("- -\n41 -\n42 43\n43 -\nmax\n"));
+    let bad = folder.with("bad", changed(71, b"0"));
+    let none = folder.at("none");
+    let well = format!("{good}: well formed, 3 pivots, 2 slots, 1 with an edge\n");
+    let of_all = format!("{all}: well formed, 5 pivots, 4 slots, 1 with an edge, all keys\n");
+    let refused = format!("refused 3: {bad}, slot 0: pivots don't rise strictly\n");
+    let missing = format!("joistdenim: {none}: No such file or directory (os error 2)\n");
+    let checked = ran(&format!("check {good} {all}"), "");
+    assert_eq!(checked.text(), format!("{well}{of_all}"));
+    let checked = ran(&format!("check {bad} {good}"), "");
+    assert_eq!((checked.status, checked.errors), (1, refused.clone()));
+    assert_eq!(checked.output, well.as_bytes());
+    let checked = ran(&format!("check {none} {bad} {all}"), "");
+    assert_eq!((checked.status, checked.errors), (2, missing + &refused));
+    assert_eq!(checked.output, of_all.as_bytes());
+    let line = "standard input: well formed, 3 pivots, 2 slots, 1 with an edge\n";
+    assert_eq!(ran("check -", table(SHORT_T)).text(), line);
+}

@@ -1,0 +1,170 @@
+//! How the command is called: help, version, wrong usage, and keys that are none.
+mod support;
+
+use support::{ran, ran_words, Folder, SHORT_T};
+
+const COMMANDS: [&str; 8] = [
+    "list", "table", "show", "cut", "insert", "join", "check", "bucket",
+];
+
+/// Wrong usage says what is wrong and which help tells more, and ends with 2.
+#[track_caller]
+fn wrong(arguments: &str, text: &str, help: &str) {
+    let line = format!("joistdenim: {text}; 'joistdenim {help}' tells more");
+    ran(arguments, "").failed(2, &line);
+}
+
+#[test]
+fn help_names_every_command_and_has_its_example() {
+    let all = ran("--help", "").text();
+    for name in COMMANDS {
+        assert!(all.contains(&format!("\n  {name} ")), "{name}");
+        let page = ran(&format!("{name} --help"), "").text();
+        assert!(page.starts_with(&format!("joistdenim {name} ")));
+        assert!(page.contains("\nExample:\n  $ "));
+        assert!(page.contains(&format!("$ joistdenim {name} ")));
+        assert!(page.lines().all(|line| line == line.trim_end()));
+        assert_eq!(ran(&format!("{name} -h"), "").text(), page);
+        assert_eq!(ran(&format!("help {name}"), "").text(), page);
+    }
+    assert_eq!(ran("-h", "").text(), all);
+    assert_eq!(ran("help", "").text(), all);
+}
+
+#[test]
+fn the_version_is_the_crates() {
+    let line = format!("joistdenim {}\n", env!("CARGO_PKG_VERSION"));
+    assert_eq!(ran("--version", "").text(), line);
+    assert_eq!(ran("-V", "").text(), line);
+}
+
+#[test]
+fn wrong_commands_and_options() {
+    wrong("", "a command is missing", "--help");
+    wrong("lst", "there is no command \"lst\"", "--help");
+    wrong("help lst", "there is no command \"lst\"", "--help");
+    wrong("--lst", "there is no command \"--lst\"", "--help");
+    for name in COMMANDS {
+        let help = format!("{name} --help");
+        wrong(
+            &format!("{name} --odd"),
+            "there is no option \"--odd\"",
+            &help,
+        );
+        wrong(&format!("{name} -x"), "there is no option \"-x\"", &help);
+    }
+    wrong("check -o t", "there is no option \"-o\"", "check --help");
+    wrong("show -o t", "there is no option \"-o\"", "show --help");
+    wrong("list --tsv", "there is no option \"--tsv\"", "list --help");
+    wrong("list t -o", "-o needs a file", "list --help");
+    let words = ["list", "-o FILE"].map(Into::into).into_iter();
+    let line = "joistdenim: there is no option \"-o FILE\"; 'joistdenim list --help' tells more";
+    ran_words(words, "", false, false).failed(2, line);
+}
+
+#[test]
+fn too_few_and_too_many_arguments() {
+    let cases = [
+        ("list", "one table", &["list", "list a b"][..]),
+        ("table", "one list at most", &["table a b"]),
+        (
+            "cut",
+            "left or right, a table and a key",
+            &["cut", "cut left", "cut left - 41 42"],
+        ),
+        (
+            "insert",
+            "a table and a key",
+            &["insert -", "insert - 41 42"],
+        ),
+        ("join", "two tables", &["join -", "join - a b"]),
+        ("check", "tables", &["check"]),
+        (
+            "bucket",
+            "translate, two prefixes and a bucket",
+            &["bucket", "bucket translate 41 43"],
+        ),
+    ];
+    for (name, takes, all) in cases {
+        for arguments in all {
+            wrong(
+                arguments,
+                &format!("{name} takes {takes}"),
+                &format!("{name} --help"),
+            );
+        }
+    }
+    wrong("show", "show takes a table and keys", "show --help");
+    wrong(
+        "show -",
+        "show takes keys, or - for keys on standard input",
+        "show --help",
+    );
+    wrong(
+        "cut up - 41",
+        "\"up\" is neither left nor right",
+        "cut --help",
+    );
+    wrong(
+        "bucket cut 41 43 -",
+        "bucket has no command \"cut\", only translate",
+        "bucket --help",
+    );
+}
+
+#[test]
+fn standard_input_is_read_once() {
+    let text = "standard input can be read only once";
+    wrong("show - -", text, "show --help");
+    wrong("show t - 41 -", text, "show --help");
+    wrong("join - -", text, "join --help");
+    wrong("check - t -", text, "check --help");
+}
+
+#[test]
+fn what_is_no_key_is_wrong_usage() {
+    let folder = Folder::new();
+    let t = folder.with("t.table", support::table(SHORT_T));
+    let digit = "\"4g\" is no key: 'g' is no hexadecimal digit";
+    let half = "\"413\" is no key: a byte has two digits, and the last has one";
+    for (arguments, help) in [
+        ("show T KEY", "show --help"),
+        ("show --tsv T 4131 KEY", "show --help"),
+        ("cut left T KEY", "cut --help"),
+        ("cut right T KEY", "cut --help"),
+        ("insert T KEY", "insert --help"),
+        ("bucket translate KEY 43 T", "bucket --help"),
+        ("bucket translate 41 KEY T", "bucket --help"),
+    ] {
+        let arguments = arguments.replace('T', &t);
+        wrong(&arguments.replace("KEY", "4g"), digit, help);
+        wrong(&arguments.replace("KEY", "413"), half, help);
+    }
+}
+
+#[test]
+fn a_key_over_64_bytes_is_refused() {
+    let t = support::table(SHORT_T);
+    let line = "refused 2: a key has at most 64 bytes, and this one has 65";
+    let (digits, letters) = ("41".repeat(65), "A".repeat(65));
+    for arguments in ["show - KEY", "cut left - KEY", "insert - KEY"] {
+        ran(&arguments.replace("KEY", &digits), &t).failed(1, line);
+        let as_written = format!("{arguments} --text").replace("KEY", &letters);
+        ran(&as_written, &t).failed(1, line);
+    }
+    ran(&format!("bucket translate {digits} 43 -"), "").failed(1, line);
+    ran(&format!("bucket translate 41 {digits} -"), "").failed(1, line);
+}
+
+#[test]
+fn options_stand_anywhere_before_two_hyphens() {
+    let t = support::table(SHORT_T);
+    let cut = ran("cut --text left - A1", &t).done();
+    assert_eq!(ran("cut left - A1 --text", &t).done(), cut);
+    assert_eq!(ran("cut left --text -- - A1", &t).done(), cut);
+    let below = ran("show --text - -- -A", &t);
+    below.failed(
+        1,
+        "refused 5: 2d41 is outside the table, which goes from 4130 up to, but without, 42",
+    );
+}

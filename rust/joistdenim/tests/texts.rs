@@ -1,0 +1,264 @@
+//! Tables and buckets read from text: the list and the short form, what a person may write
+//! otherwise, and each fault with its line and column.
+use joistdenim::{Bucket, ListError, Refusal, Table};
+
+const LIST_OF_T: &str =
+    "slot\tleft\tright\tshared\tedge\n0\t4130\t4135\t41\t43\n1\t4135\t42\t41\t-\n";
+
+fn t() -> Table {
+    LIST_OF_T.parse().expect("T's own list")
+}
+
+/// The texts, each of them T's.
+fn all_are_t(texts: &[&str]) {
+    for text in texts {
+        assert_eq!(text.parse().as_ref(), Ok(&t()), "{text:?}");
+    }
+}
+
+/// Line and column, what is said there, and the refusal's number or 0.
+type Said = (usize, usize, &'static str, u32);
+
+fn said(error: &ListError) -> (usize, usize, String, u32) {
+    let number = error.refusal().map_or(0, Refusal::number);
+    (error.line(), error.column(), error.reason(), number)
+}
+
+fn faults_of_tables(cases: &[(&str, Said)]) {
+    for (text, (line, column, reason, number)) in cases {
+        let error = text.parse::<Table>().expect_err(text);
+        assert_eq!(
+            said(&error),
+            (*line, *column, reason.to_string(), *number),
+            "{text:?}"
+        );
+    }
+}
+
+fn with_header(lines: &str) -> String {
+    format!("slot left right shared edge\n{lines}")
+}
+
+#[test]
+fn a_list_is_read_back() {
+    for text in [
+        LIST_OF_T,
+        "slot\tleft\tright\tshared\tedge\n0\t-\tmax\t-\t-\n",
+        "slot\tleft\tright\tshared\tedge\n0\tff0a\tmax\tff\t.\n",
+        "slot\tleft\tright\tshared\tedge\n0\t-\t4130\t-\t-\n1\t4130\t4135\t41\t.\n2\t4135\tmax\t-\t-\n",
+    ] {
+        let table: Table = text.parse().expect(text);
+        assert_eq!(table.to_string(), text);
+        assert_eq!(Table::try_from(&table.to_bytes()[..]).as_ref(), Ok(&table));
+    }
+}
+
+#[test]
+fn a_list_may_be_written_otherwise() {
+    all_are_t(&[
+        &LIST_OF_T.replace('\t', " "),
+        &LIST_OF_T.replace('\t', "   "),
+        &LIST_OF_T.replace('\t', "\t\t"),
+        &LIST_OF_T.replace('\n', "\r\n"),
+        &LIST_OF_T.replace('\n', "\n\n"),
+        &LIST_OF_T.replace('\n', " # a comment\n # another\n"),
+        &format!("\u{feff}{LIST_OF_T}"),
+        &format!("  {}", LIST_OF_T.trim_end()),
+        &LIST_OF_T["slot\tleft\tright\tshared\tedge\n".len()..],
+    ]);
+    let capitals = "0 4A 4B 4A 4C\n".parse::<Table>().expect("capitals");
+    assert_eq!(capitals, "0 4a 4b 4a 4c\n".parse().expect("small letters"));
+}
+
+#[test]
+fn the_short_form_is_read() {
+    all_are_t(&[
+        "4130 43\n4135 -\n42\n",
+        "left edge\n4130 43\n4135 -\n42",
+        "\n# T\nleft\tedge # names\n\n4130\t43#43\n  4135  -\n42 # the end\n\n",
+        "4130 43\r\n4135 -\r\n42\r\n",
+    ]);
+    let all: Table = "- -\nmax\n".parse().expect("all keys");
+    assert!(all.contains_all_keys());
+}
+
+#[test]
+fn faults_of_a_list() {
+    let three = with_header("0 4130 4135 41 43\n1 4135 42 41 -\n");
+    let at = |old: &str, new: &str| three.replacen(old, new, 1);
+    faults_of_tables(&[
+        (&at("0 4130", "1 4130"), (2, 1, "this is slot 0", 0)),
+        (&at("1 4135", "01 4135"), (3, 1, "this is slot 1", 0)),
+        (
+            &at("4135 41", "4136 41"),
+            (
+                2,
+                8,
+                "the next slot begins with 4135, so this one ends there",
+                0,
+            ),
+        ),
+        (
+            &at("4135 41", "max 41"),
+            (
+                2,
+                8,
+                "the next slot begins with 4135, so this one ends there",
+                0,
+            ),
+        ),
+        (
+            &at("41 43", "4130 43"),
+            (2, 13, "what the keys of this slot share is 41", 0),
+        ),
+        (
+            &at("41 43", "- 43"),
+            (2, 13, "what the keys of this slot share is 41", 0),
+        ),
+        (
+            &at("41 -", "42 -"),
+            (3, 11, "what the keys of this slot share is 41", 0),
+        ),
+        (
+            &at(" 41 43", " 43"),
+            (2, 1, "a line of the list has 5 fields, and this has 4", 0),
+        ),
+        (
+            &at("41 -", "41 - -"),
+            (3, 1, "a line of the list has 5 fields, and this has 6", 0),
+        ),
+        (
+            &at("4130", "413g"),
+            (2, 6, "'g' is no hexadecimal digit", 0),
+        ),
+        (
+            &at("4130", "413"),
+            (2, 6, "a byte has two digits, and the last has one", 0),
+        ),
+        (&at("4130", "max"), (2, 3, "'m' is no hexadecimal digit", 0)),
+        (
+            &at("41 43", ". 43"),
+            (2, 13, "'.' is no hexadecimal digit", 0),
+        ),
+        (
+            &at("41 43", "41 max"),
+            (2, 16, "'m' is no hexadecimal digit", 0),
+        ),
+        (
+            "refused\t1\n",
+            (
+                1,
+                1,
+                "this says that a table was refused, and is no list",
+                0,
+            ),
+        ),
+    ]);
+}
+
+#[test]
+fn faults_of_the_short_form() {
+    let missing = "the last line is missing, with the end of the table: a key or max";
+    let after = "the line before has no edge and is the end, so no line follows";
+    let third = "a line has a left bound and an edge, or the end alone";
+    faults_of_tables(&[
+        ("", (1, 1, missing, 0)),
+        ("# nothing\n\n", (3, 1, missing, 0)),
+        ("left edge\n", (2, 1, missing, 0)),
+        ("4130 43\n4135 -\n", (3, 1, missing, 0)),
+        ("4130 43\n4135 -", (3, 1, missing, 0)),
+        ("4130\n4135 -\n42\n", (2, 1, after, 0)),
+        ("4130 43 -\n42\n", (1, 9, third, 0)),
+        ("4130 é\n42\n", (1, 6, "'é' is no hexadecimal digit", 0)),
+        ("é 43\n42\n", (1, 1, "'é' is no hexadecimal digit", 0)),
+        ("4130\t\t4x\n42\n", (1, 8, "'x' is no hexadecimal digit", 0)),
+    ]);
+}
+
+#[test]
+fn refused_tables() {
+    let rise = "pivots don't rise strictly";
+    let number = "a table has 2 to 64 pivots";
+    let empty = "an edge where the range's prefix is empty";
+    let long = format!("41 -\n{} -\n42\n", "41".repeat(65));
+    let many: String = (0..70).map(|i| format!("41{i:02x} -\n")).collect();
+    faults_of_tables(&[
+        ("42\n", (2, 1, number, 1)),
+        (&format!("{many}42\n"), (65, 1, number, 1)),
+        (
+            &long,
+            (2, 1, "a key has at most 64 bytes, and this one has 65", 2),
+        ),
+        ("41 -\n40 -\nmax\n", (2, 1, rise, 3)),
+        ("41 -\n41 -\nmax\n", (2, 1, rise, 3)),
+        ("41 -\n42 -\n42\n", (3, 1, rise, 3)),
+        ("41 -\n -  -\nmax\n", (2, 2, rise, 3)),
+        ("0 41 40 41 -\n", (1, 6, rise, 3)),
+        ("41 43\nmax\n", (1, 4, empty, 4)),
+        ("4130 -\n4135 .\n43\n", (2, 6, empty, 4)),
+    ]);
+    let error = "41 -\n40\n".parse::<Table>().unwrap_err();
+    let text = "line 2, column 1: refusal 3: pivots don't rise strictly";
+    assert_eq!(error.to_string(), text);
+    let error = "4x -\n40\n".parse::<Table>().unwrap_err();
+    assert_eq!(
+        error.to_string(),
+        "line 1, column 2: 'x' is no hexadecimal digit"
+    );
+}
+
+#[test]
+fn the_text_is_read_before_the_table_is_checked() {
+    let error = "41 -\n40 -\n4x\n".parse::<Table>().unwrap_err();
+    assert_eq!((error.line(), error.refusal()), (3, None));
+    let unsorted = with_header("0 41 40 07 -\n").parse::<Table>().unwrap_err();
+    assert_eq!(unsorted.refusal(), Some(Refusal::Unsorted));
+}
+
+#[test]
+fn buckets_are_read() {
+    let bucket: Bucket = "4130\t7\n-\t0\n".parse().expect("a bucket");
+    let written = "# drawer\n\n 4130   007 # seven\r\n - 0";
+    assert_eq!(written.parse().as_ref(), Ok(&bucket));
+    assert_eq!("".parse::<Bucket>(), Ok(Bucket::default()));
+    let last = format!("41\t{}\n", u32::MAX);
+    assert_eq!(last.parse::<Bucket>().expect("2^32 - 1").to_string(), last);
+}
+
+#[test]
+fn faults_of_buckets() {
+    let number = "a number goes from 0 to 4294967295";
+    let fields =
+        |count| format!("a line of a bucket has a key and a number, and this has {count} fields");
+    let many = "41 7\n".repeat(513);
+    let cases = [
+        ("41", (1, 1, fields(1), 0)),
+        ("41 7\n41 7 8\n", (2, 1, fields(3), 0)),
+        ("41 x\n", (1, 4, number.to_string(), 0)),
+        ("41 +7\n", (1, 4, number.to_string(), 0)),
+        ("41 -7\n", (1, 4, number.to_string(), 0)),
+        ("41 4294967296\n", (1, 4, number.to_string(), 0)),
+        (
+            "4 7\n",
+            (
+                1,
+                2,
+                "a byte has two digits, and the last has one".into(),
+                0,
+            ),
+        ),
+        ("max 7\n", (1, 1, "'m' is no hexadecimal digit".into(), 0)),
+        (
+            &many,
+            (513, 1, "a bucket has at most 512 entries".into(), 1),
+        ),
+    ];
+    for (text, wanted) in cases {
+        assert_eq!(
+            said(&text.parse::<Bucket>().expect_err(text)),
+            wanted,
+            "{text:?}"
+        );
+    }
+    assert!(many["41 7\n".len()..].parse::<Bucket>().is_ok());
+}
