@@ -1,18 +1,21 @@
 //! The arguments of a command: options, and the rest in turn.
 use crate::failure::Failure;
 use crate::pages::Page;
-use joistdenim::{Key, TextError};
+use joistdenim::{from_hex, TextError};
 use std::ffi::{OsStr, OsString};
 use std::os::unix::ffi::OsStrExt;
 
 /// Standard input, or standard output, in place of a file.
 pub const STREAM: &str = "-";
 
+/// The empty key, where standard input can't stand.
+const EMPTY_KEY: &[u8] = b"-";
+
 pub struct Arguments {
     page: &'static Page,
     flags: Vec<&'static str>,
     pub help: bool,
-    pub output: Option<OsString>,
+    output: Option<OsString>,
     pub rest: Vec<OsString>,
 }
 
@@ -35,7 +38,10 @@ pub fn read(page: &'static Page, words: &[OsString]) -> Result<Arguments, Failur
             "-h" | "--help" => arguments.help = true,
             "-o" if page.writes() => {
                 let missing = || arguments.wrong("-o needs a file");
-                arguments.output = Some(words.next().ok_or_else(missing)?.clone());
+                let file = words.next().ok_or_else(missing)?.clone();
+                if arguments.output.replace(file).is_some() {
+                    return Err(arguments.wrong("-o is given twice"));
+                }
             }
             option if option.starts_with('-') && option != STREAM => {
                 let unknown = || arguments.wrong(format!("there is no option {option:?}"));
@@ -51,6 +57,12 @@ pub fn read(page: &'static Page, words: &[OsString]) -> Result<Arguments, Failur
 impl Arguments {
     pub fn has(&self, flag: &str) -> bool {
         self.flags.contains(&flag)
+    }
+
+    /// The file that is written in place of standard output.
+    pub fn file(&self) -> Option<&OsStr> {
+        let path = self.output.as_deref();
+        path.filter(|path| *path != STREAM)
     }
 
     /// Wrong usage of this command.
@@ -74,25 +86,18 @@ impl Arguments {
         }
     }
 
-    /// A key in hexadecimal, or with `--text` as it is written.
-    pub fn key(&self, word: &OsStr) -> Result<Key, Failure> {
-        let key = read_key(word.as_bytes(), self.has("--text"));
-        key.map_err(|error| match error.refusal() {
-            Some(refusal) => Failure::Refused(refusal, error.to_string()),
-            None => self.no_key(word, &error),
-        })
-    }
-
-    /// A word that isn't hexadecimal.
-    pub fn no_key(&self, word: &OsStr, error: &TextError) -> Failure {
-        self.wrong(format!("{word:?} is no key: {error}"))
+    /// The bytes of a key in hexadecimal, or with `--text` as it is written.
+    pub fn bytes(&self, word: &OsStr) -> Result<Vec<u8>, Failure> {
+        let bytes = read_bytes(word.as_bytes(), self.has("--text"));
+        bytes.map_err(|error| self.wrong(format!("{word:?} is no key: {error}")))
     }
 }
 
-pub fn read_key(bytes: &[u8], as_written: bool) -> Result<Key, TextError> {
-    if as_written {
-        let length = bytes.len();
-        return Key::try_from(bytes).map_err(|refusal| TextError::Refused { refusal, length });
+/// The bytes of a key, though it may be too long for one.
+pub fn read_bytes(word: &[u8], as_written: bool) -> Result<Vec<u8>, TextError> {
+    match (word, as_written) {
+        (_, true) => Ok(word.into()),
+        (EMPTY_KEY, false) => Ok(vec![]),
+        (_, false) => from_hex(&String::from_utf8_lossy(word)),
     }
-    String::from_utf8_lossy(bytes).parse()
 }

@@ -1,6 +1,7 @@
 //! `joistdenim bucket translate`.
 use crate::arguments::Arguments;
 use crate::failure::{Done, Failure};
+use crate::refused::{self, key_of};
 use crate::{files, output, Streams};
 use joistdenim::{Bucket, Entry, Key, Refusal};
 use std::ffi::OsStr;
@@ -11,8 +12,10 @@ pub fn run(arguments: &Arguments, streams: &mut Streams) -> Done {
     if verb != "translate" {
         return Err(arguments.wrong(format!("bucket has no command {verb:?}, only translate")));
     }
-    let (old, new) = (arguments.key(old)?, arguments.key(new)?);
+    let (old, new) = (arguments.bytes(old)?, arguments.bytes(new)?);
+    // Of a bucket and a prefix that are both refused, the bucket's refusal comes first.
     let bucket = read(path, arguments, streams)?;
+    let (old, new) = (key_of(&old)?, key_of(&new)?);
     let fates: Vec<(Entry, Fate)> = bucket
         .entries()
         .map(|e| (e, fate(&e, &old, &new)))
@@ -21,7 +24,7 @@ pub fn run(arguments: &Arguments, streams: &mut Streams) -> Done {
         return output::text(&report(&fates), arguments, streams);
     }
     let renamed = bucket.translate(&old, &new);
-    let renamed = renamed.map_err(|refusal| Failure::Refused(refusal, too_long(&fates)))?;
+    let renamed = renamed.map_err(|refusal| Failure::refused(refusal, too_long(&fates)))?;
     if arguments.has("--bytes") {
         output::bytes(renamed.as_bytes(), arguments, streams)?;
     } else {
@@ -37,8 +40,10 @@ fn read(path: &OsStr, arguments: &Arguments, streams: &mut Streams) -> Result<Bu
         return files::of_text(path, "with --bytes entries are read", streams);
     }
     let bytes = files::bytes(path, files::MOST_BUCKET, streams)?;
-    let name = files::name_of(path);
-    Bucket::try_from(&bytes[..]).map_err(|refusal| files::refused(&name, refusal))
+    Bucket::try_from(&bytes[..]).map_err(|refusal| {
+        let text = refused::entries(&files::name_of(path), &bytes, refusal);
+        Failure::refused(refusal, text)
+    })
 }
 
 /// What becomes of an entry.

@@ -1,29 +1,37 @@
 //! `joistdenim cut`, `insert` and `join`.
 use crate::arguments::Arguments;
-use crate::failure::{Done, Failure};
-use crate::{files, output, refused, Streams};
+use crate::failure::{Done, Failure, Refused};
+use crate::files::Input;
+use crate::refused::{self, key_of};
+use crate::{output, Streams};
 use joistdenim::{Key, Refusal, Table};
 use std::ffi::OsStr;
 
-/// A call that divides a table at a key, and between which keys it does so, from the table's first
-/// and last pivot.
+type OnSlices = fn(&[u8], &[u8], &[u8], &mut [u8], &mut [u8]) -> Result<usize, Refusal>;
+
+/// A call that divides a table at a key: of values, and on slices with two destinations. And
+/// between which keys it does so, from the table's first and last pivot.
 struct Divide {
     call: fn(&Table, &Key) -> Result<Table, Refusal>,
+    on_slices: OnSlices,
     allowed: fn(&str, &str) -> String,
 }
 
 const LEFT: Divide = Divide {
     call: Table::split_left,
+    on_slices: joistdenim::split_left,
     allowed: |first, last| format!("above {first} and not above {last}"),
 };
 
 const RIGHT: Divide = Divide {
     call: Table::split_right,
+    on_slices: joistdenim::split_right,
     allowed: |first, last| format!("not below {first}, and below {last}"),
 };
 
 const INSERT: Divide = Divide {
     call: Table::insert_pivot,
+    on_slices: joistdenim::insert_pivot,
     allowed: |first, last| format!("above {first} and below {last}"),
 };
 
@@ -49,12 +57,20 @@ fn divided(
     arguments: &Arguments,
     streams: &mut Streams,
 ) -> Done {
-    let key = arguments.key(key)?;
-    let table = files::table(path, streams)?;
+    let bytes = arguments.bytes(key)?;
+    let input = Input::read(path, streams)?;
+    let (table, key) = match (input.table(), key_of(&bytes)) {
+        (Ok(table), Ok(key)) => (table, key),
+        (table, key) => {
+            let (pivots, edges) = input.records();
+            let whole = (divide.on_slices)(pivots, edges, &bytes, &mut [], &mut []);
+            return Err(first_of(whole, [table.err(), key.err()]));
+        }
+    };
     let divided = (divide.call)(&table, &key).map_err(|refusal| {
         let (first, last) = refused::ends(&table);
         let text = refused::change(&key, &(divide.allowed)(&first, &last), refusal);
-        Failure::Refused(refusal, text)
+        Failure::refused(refusal, text)
     })?;
     output::bytes(&divided.to_bytes(), arguments, streams)
 }
@@ -62,10 +78,24 @@ fn divided(
 pub fn join(arguments: &Arguments, streams: &mut Streams) -> Done {
     let [first, second] = arguments.exactly("two tables")?;
     arguments.one_stream()?;
-    let first = files::table(first, streams)?;
-    let second = files::table(second, streams)?;
+    let inputs = [Input::read(first, streams)?, Input::read(second, streams)?];
+    let (first, second) = match inputs.each_ref().map(Input::table) {
+        [Ok(first), Ok(second)] => (first, second),
+        tables => {
+            let [(p, e), (q, f)] = inputs.each_ref().map(Input::records);
+            let whole = joistdenim::join(p, e, q, f, &mut [], &mut []);
+            return Err(first_of(whole, tables.map(Result::err)));
+        }
+    };
     let joined = first
         .join(&second)
-        .map_err(|refusal| Failure::Refused(refusal, refused::join(&first, &second, refusal)))?;
+        .map_err(|refusal| Failure::refused(refusal, refused::join(&first, &second, refusal)))?;
     output::bytes(&joined.to_bytes(), arguments, streams)
+}
+
+/// Of the arguments that are refused, the one that the call refuses first.
+fn first_of(whole: Result<usize, Refusal>, refused: [Option<Refused>; 2]) -> Failure {
+    let mut refused = refused.into_iter().flatten();
+    let first = refused.find(|refused| whole == Err(refused.refusal));
+    first.expect("the call refuses one of them").into()
 }

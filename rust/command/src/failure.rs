@@ -8,14 +8,20 @@ pub type Done = Result<u8, Failure>;
 pub const REFUSED: u8 = 1;
 pub const TROUBLE: u8 = 2;
 
+/// The library's refusal, and what it means here.
+#[derive(Debug)]
+pub struct Refused {
+    pub refusal: Refusal,
+    pub text: String,
+}
+
 #[derive(Debug)]
 pub enum Failure {
     /// Wrong usage, and which help tells more.
     Usage(String, String),
     /// A file can't be read or written.
     File(String),
-    /// The library's refusal, and what it means here.
-    Refused(Refusal, String),
+    Refused(Refused),
     /// Whoever read the output has closed it, and wants no more.
     Closed,
 }
@@ -23,6 +29,11 @@ pub enum Failure {
 impl Failure {
     pub fn usage(text: impl Into<String>, help: impl Into<String>) -> Self {
         Failure::Usage(text.into(), help.into())
+    }
+
+    pub fn refused(refusal: Refusal, text: impl Into<String>) -> Self {
+        let text = text.into();
+        Failure::Refused(Refused { refusal, text })
     }
 
     pub fn status(&self) -> u8 {
@@ -34,6 +45,12 @@ impl Failure {
     }
 }
 
+impl From<Refused> for Failure {
+    fn from(refused: Refused) -> Self {
+        Failure::Refused(refused)
+    }
+}
+
 /// What is said on standard error, with the end of its line.
 impl fmt::Display for Failure {
     fn fmt(&self, f: &mut fmt::Formatter<'_>) -> fmt::Result {
@@ -42,7 +59,9 @@ impl fmt::Display for Failure {
                 writeln!(f, "joistdenim: {text}; 'joistdenim {help}' tells more")
             }
             Failure::File(text) => writeln!(f, "joistdenim: {text}"),
-            Failure::Refused(refusal, text) => writeln!(f, "refused {}: {text}", refusal.number()),
+            Failure::Refused(Refused { refusal, text }) => {
+                writeln!(f, "refused {}: {text}", refusal.number())
+            }
             Failure::Closed => Ok(()),
         }
     }

@@ -1,9 +1,9 @@
 //! Files that are read, standard input among them.
 use crate::arguments::STREAM;
-use crate::failure::Failure;
+use crate::failure::{Failure, Refused};
 use crate::refused;
 use crate::Streams;
-use joistdenim::{ListError, Refusal, Table, ENTRY_SIZE, MAX_ENTRIES, MAX_PIVOTS, RECORD_SIZE};
+use joistdenim::{ListError, Table, ENTRY_SIZE, MAX_ENTRIES, MAX_PIVOTS, RECORD_SIZE};
 use std::ffi::OsStr;
 use std::fs::File;
 use std::io::{self, Read};
@@ -20,11 +20,37 @@ pub const MOST_BUCKET: usize = MAX_ENTRIES * ENTRY_SIZE;
 /// The longest text, comments included.
 const MOST_TEXT: usize = 1 << 20;
 
-/// What a file is called in a message.
+/// What a file is called in a message, on a terminal too.
 pub fn name_of(path: &OsStr) -> String {
     match path == STREAM {
         true => "standard input".into(),
-        false => path.to_string_lossy().into_owned(),
+        false => path.to_string_lossy().replace(char::is_control, "?"),
+    }
+}
+
+/// What was read, which should be a table.
+pub struct Input {
+    name: String,
+    bytes: Vec<u8>,
+}
+
+impl Input {
+    pub fn read(path: &OsStr, streams: &mut Streams) -> Result<Self, Failure> {
+        let (name, bytes) = (name_of(path), bytes(path, MOST_TABLE, streams)?);
+        Ok(Input { name, bytes })
+    }
+
+    /// Its pivots and edges, as they are lent to the library.
+    pub fn records(&self) -> (&[u8], &[u8]) {
+        Table::split_input(&self.bytes).unwrap_or_default()
+    }
+
+    pub fn table(&self) -> Result<Table, Refused> {
+        let refused = |refusal| Refused {
+            refusal,
+            text: refused::table(&self.name, &self.bytes, refusal),
+        };
+        Table::try_from(&self.bytes[..]).map_err(refused)
     }
 }
 
@@ -42,10 +68,7 @@ pub fn bytes(path: &OsStr, most: usize, streams: &mut Streams) -> Result<Vec<u8>
 }
 
 pub fn table(path: &OsStr, streams: &mut Streams) -> Result<Table, Failure> {
-    let input = bytes(path, MOST_TABLE, streams)?;
-    let name = name_of(path);
-    Table::try_from(&input[..])
-        .map_err(|refusal| Failure::Refused(refusal, refused::table(&name, &input, refusal)))
+    Ok(Input::read(path, streams)?.table()?)
 }
 
 /// A table or bucket of a file's text. What isn't UTF-8 may stand in comments. If it is bytes, the
@@ -69,13 +92,8 @@ pub fn of_text<T: FromStr<Err = ListError>>(
         .map_err(|error: ListError| {
             let place = format!("{name}, line {}, column {}", error.line(), error.column());
             match error.refusal() {
-                Some(refusal) => Failure::Refused(refusal, format!("{place}: {}", error.reason())),
+                Some(refusal) => Failure::refused(refusal, format!("{place}: {}", error.reason())),
                 None => Failure::File(format!("{place}: {}", error.reason())),
             }
         })
-}
-
-/// A refusal of what was read from a file.
-pub fn refused(name: &str, refusal: Refusal) -> Failure {
-    Failure::Refused(refusal, format!("{name}: {}", refusal.meaning()))
 }

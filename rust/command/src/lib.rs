@@ -53,6 +53,9 @@ fn dispatch(arguments: &[OsString], streams: &mut Streams) -> Done {
     let first = first.to_string_lossy();
     match &*first {
         "-h" | "--help" | "help" => asked_help(rest, streams),
+        "-V" | "--version" | "--man" if !rest.is_empty() => {
+            Err(Failure::usage(format!("{first} stands alone"), "--help"))
+        }
         "-V" | "--version" => output::print(streams, version().as_bytes()),
         "--man" => output::print(streams, man::man().as_bytes()),
         name => match page(name) {

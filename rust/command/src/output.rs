@@ -1,10 +1,12 @@
 //! What is written: to standard output, or to a file, whole or not at all.
-use crate::arguments::{Arguments, STREAM};
+use crate::arguments::Arguments;
 use crate::failure::{Done, Failure};
+use crate::files::name_of;
 use crate::Streams;
 use std::ffi::OsStr;
-use std::fs::{self, File, OpenOptions};
+use std::fs::{self, File, OpenOptions, Permissions};
 use std::io::{self, ErrorKind, Write};
+use std::os::unix::fs::{fchown, MetadataExt, PermissionsExt};
 use std::path::{Path, PathBuf};
 
 /// Prints it all now; the status is 0.
@@ -19,7 +21,7 @@ pub fn print(streams: &mut Streams, text: &[u8]) -> Done {
 
 /// Writes text where the arguments say.
 pub fn text(text: &str, arguments: &Arguments, streams: &mut Streams) -> Done {
-    match file_of(arguments) {
+    match arguments.file() {
         Some(path) => replace(path, text.as_bytes()),
         None => print(streams, text.as_bytes()),
     }
@@ -27,7 +29,7 @@ pub fn text(text: &str, arguments: &Arguments, streams: &mut Streams) -> Done {
 
 /// Writes bytes, which are nothing for a terminal.
 pub fn bytes(bytes: &[u8], arguments: &Arguments, streams: &mut Streams) -> Done {
-    match file_of(arguments) {
+    match arguments.file() {
         Some(path) => replace(path, bytes),
         None if streams.terminal => {
             Err(arguments.wrong("the result is bytes and not for a terminal: give -o FILE"))
@@ -36,18 +38,11 @@ pub fn bytes(bytes: &[u8], arguments: &Arguments, streams: &mut Streams) -> Done
     }
 }
 
-fn file_of(arguments: &Arguments) -> Option<&OsStr> {
-    let path = arguments.output.as_deref();
-    path.filter(|path| *path != STREAM)
-}
-
 /// A new file beside the old one, which takes its place once it is whole.
 fn replace(path: &OsStr, bytes: &[u8]) -> Done {
-    let failed = |error: io::Error| Failure::File(format!("{}: {error}", path.to_string_lossy()));
+    let failed = |error: io::Error| Failure::File(format!("{}: {error}", name_of(path)));
     let place = place_of(Path::new(path)).map_err(failed)?;
-    let mut name = place.file_name().unwrap_or_default().to_os_string();
-    name.push(format!(".{}.new", std::process::id()));
-    let new = place.with_file_name(name);
+    let new = place.with_file_name(format!(".joistdenim.{}.new", std::process::id()));
     let written = write_new(&new, &place, bytes).and_then(|()| fs::rename(&new, &place));
     written.map_err(|error| {
         // It may not be there.
@@ -57,12 +52,19 @@ fn replace(path: &OsStr, bytes: &[u8]) -> Done {
     Ok(0)
 }
 
-/// Where the file itself is, or shall be: a link stays a link.
+/// Where the file itself is, or shall be: a link stays a link. What the system has in these folders
+/// stands for something else, a stream for one.
 fn place_of(path: &Path) -> io::Result<PathBuf> {
+    let is_system = ["/dev", "/proc"]
+        .iter()
+        .any(|folder| path.starts_with(folder));
     match fs::canonicalize(path) {
-        Ok(place) if place.is_file() => Ok(place),
+        Ok(place) if place.is_file() && !is_system => Ok(place),
         Ok(_) => Err(io::Error::other("not a file that can be replaced")),
-        Err(error) if error.kind() == ErrorKind::NotFound => Ok(path.to_path_buf()),
+        Err(error) if error.kind() == ErrorKind::NotFound => match fs::read_link(path) {
+            Ok(target) => place_of(&path.with_file_name("").join(target)),
+            Err(_) => Ok(path.to_path_buf()),
+        },
         Err(error) => Err(error),
     }
 }
@@ -70,7 +72,9 @@ fn place_of(path: &Path) -> io::Result<PathBuf> {
 fn write_new(new: &Path, old: &Path, bytes: &[u8]) -> io::Result<()> {
     let mut file: File = OpenOptions::new().write(true).create_new(true).open(new)?;
     if let Ok(old) = fs::metadata(old) {
-        file.set_permissions(old.permissions())?;
+        // Another's file stays theirs where that is allowed.
+        let _ = fchown(&file, Some(old.uid()), Some(old.gid()));
+        file.set_permissions(Permissions::from_mode(old.mode() & 0o777))?;
     }
     file.write_all(bytes)?;
     file.sync_all()

@@ -120,12 +120,12 @@ pub const PAGES: &[Page] = &[
     },
     Page {
         name: "check",
-        usage: "TABLE..",
+        usage: "TABLE.. [-o FILE]",
         about: "says whether tables are well formed",
         text: &[
-            "Says for each table whether it is well formed, and how large it is; or the refusal, and the first slot that has it.",
+            "Says for each table that is well formed how large it is. For any other the refusal is told, and the first pivot or edge that is at fault.",
         ],
-        options: &[],
+        options: &[FILE],
         example: include_str!("pages/check.txt"),
         run: check::run,
     },
@@ -157,7 +157,7 @@ pub const ABOUT: &[Section] = &[
     Section {
         title: "Keys",
         text: &[
-            "A key has at most 64 bytes, here in hexadecimal, two digits a byte. The empty key is - in texts and for cut, insert and bucket; for show, where - is standard input, it is ''. The end of a table may be max, which is above every key. In the column of edges - is no edge, and . the empty one.",
+            "A key has at most 64 bytes, here in hexadecimal, two digits a byte. The empty key is - in texts and for cut, insert and bucket; for show, where - is standard input, and with --text it is ''. The end of a table may be max, which is above every key. In the column of edges - is no edge, and . the empty one.",
         ],
     },
     Section {
@@ -174,6 +174,6 @@ pub const ABOUT: &[Section] = &[
     },
     Section {
         title: "Environment",
-        text: &["NO_COLOR, if set and not empty, turns colour off; so does TERM=dumb."],
+        text: &["NO_COLOR, if set and not empty, turns colour off; so does TERM, if not set or dumb."],
     },
 ];

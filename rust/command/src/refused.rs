@@ -1,29 +1,43 @@
 //! What a refusal means for what was asked.
-use crate::files::{table_size, MOST_TABLE};
-use joistdenim::{Element, Key, Refusal, Slot, Table, MAX_PIVOTS, MIN_PIVOTS};
+use crate::failure::Refused;
+use crate::files::{table_size, MOST_BUCKET, MOST_TABLE};
+use joistdenim::{
+    entry_key, Element, Key, RecordPlace, Refusal, Slot, Table, ENTRY_SIZE, MAX_ENTRIES, MAX_LEN,
+    MAX_PIVOTS, MIN_PIVOTS,
+};
+
+/// What a malformed record is, in a table or in an entry.
+const MALFORMED: &str = "a malformed record, or a wrong mark";
 
 /// A file that is no table.
 pub fn table(name: &str, input: &[u8], refusal: Refusal) -> String {
     if refusal == Refusal::Shape {
         return shape(name, input);
     }
-    let records = Table::split_input(input);
-    let slot = records.and_then(|(pivots, edges)| Table::refused_slot(pivots, edges));
-    let place = slot.map_or(String::new(), |slot| format!(", slot {slot}"));
-    format!("{name}{place}: {}", refusal.meaning())
+    let (pivots, edges) = Table::split_input(input).unwrap_or_default();
+    let place = match Table::refused_record(pivots, edges) {
+        Some(RecordPlace::Pivot(place)) => format!(", pivot {place}"),
+        Some(RecordPlace::Edge(slot)) => format!(", edge {slot}"),
+        None => String::new(),
+    };
+    let meaning = match refusal {
+        Refusal::Malformed => MALFORMED,
+        refusal => refusal.meaning(),
+    };
+    format!("{name}{place}: {meaning}")
 }
 
 fn shape(name: &str, input: &[u8]) -> String {
     if looks_like_text(input) {
         return format!("{name} is text; 'joistdenim table' makes a table of a list");
     }
-    let length = match input.len() {
-        length @ ..=MOST_TABLE => length.to_string(),
-        _ => format!("over {MOST_TABLE}"),
-    };
+    let length = at_most(input.len(), MOST_TABLE);
     let count = input.split_first_chunk();
     match count.map(|(count, _)| u16::from_be_bytes(*count).into()) {
-        None => format!("{name} has {length} bytes, and no table has so few"),
+        None => format!(
+            "{name} is too short: the smallest table has {} bytes",
+            table_size(MIN_PIVOTS)
+        ),
         Some(count @ MIN_PIVOTS..=MAX_PIVOTS) => {
             let size = table_size(count);
             format!("{name} has {length} bytes, and a table of {count} pivots has {size}")
@@ -34,7 +48,15 @@ fn shape(name: &str, input: &[u8]) -> String {
     }
 }
 
-/// Whether it begins with a line of printable characters, as no table does.
+/// A number of bytes, of which no more were read than one over the most.
+fn at_most(length: usize, most: usize) -> String {
+    match length <= most {
+        true => length.to_string(),
+        false => format!("over {most}"),
+    }
+}
+
+/// Whether it begins with a line of printable characters, as no table and no bucket does.
 fn looks_like_text(input: &[u8]) -> bool {
     let line = input
         .split(|byte| *byte == b'\n')
@@ -44,26 +66,57 @@ fn looks_like_text(input: &[u8]) -> bool {
     input.len() > 2 && line.iter().all(printable)
 }
 
+/// Bytes that are no entries.
+pub fn entries(name: &str, bytes: &[u8], refusal: Refusal) -> String {
+    if refusal != Refusal::Shape {
+        let mut entries = bytes.chunks(ENTRY_SIZE);
+        let place = entries.position(|entry| entry_key(entry).is_err());
+        let place = place.map_or(String::new(), |place| format!(", entry {place}"));
+        return format!("{name}{place}: {MALFORMED}");
+    }
+    if looks_like_text(bytes) {
+        return format!("{name} is text; without --bytes it is read");
+    }
+    let length = at_most(bytes.len(), MOST_BUCKET);
+    format!("{name} has {length} bytes, and a bucket at most {MAX_ENTRIES} entries of {ENTRY_SIZE}")
+}
+
 /// The first and the last pivot, as text.
 pub fn ends(table: &Table) -> (String, String) {
     let text = |pivot: Option<Element>| pivot.map_or(String::new(), |pivot| pivot.to_string());
     (text(table.pivots().next()), text(table.pivots().last()))
 }
 
+/// The key of these bytes.
+pub fn key_of(bytes: &[u8]) -> Result<Key, Refused> {
+    Key::try_from(bytes).map_err(|refusal| Refused {
+        refusal,
+        text: long_key(&digits(bytes), bytes.len()),
+    })
+}
+
+pub fn digits(bytes: &[u8]) -> String {
+    bytes.iter().map(|byte| format!("{byte:02x}")).collect()
+}
+
+pub fn long_key(shown: &str, length: usize) -> String {
+    format!("{shown} has {length} bytes, and a key has at most {MAX_LEN}")
+}
+
 /// A key that isn't translated.
-pub fn key(table: &Table, key: &Key, slot: Option<&Slot>, refusal: Refusal) -> String {
+pub fn key(table: &Table, shown: &str, slot: Option<&Slot>, refusal: Refusal) -> String {
     match (refusal, slot) {
         (Refusal::OutOfRange, _) => {
             let (first, last) = ends(table);
             format!(
-                "{key} is outside the table, which goes from {first} up to, but without, {last}"
+                "{shown} is outside the table, which goes from {first} up to, but without, {last}"
             )
         }
         (Refusal::TooLong, Some(slot)) => format!(
-            "{key} with {} in place of {} would pass 64 bytes",
+            "{shown} with {} in place of {} would pass {MAX_LEN} bytes",
             slot.edge, slot.shared
         ),
-        _ => format!("{key}: {}", refusal.meaning()),
+        _ => format!("{shown}: {}", refusal.meaning()),
     }
 }
 
@@ -71,7 +124,7 @@ pub fn key(table: &Table, key: &Key, slot: Option<&Slot>, refusal: Refusal) -> S
 pub fn change(key: &Key, allowed: &str, refusal: Refusal) -> String {
     match refusal {
         Refusal::OutOfRange => format!("the key must be {allowed}, and {key} isn't"),
-        Refusal::TooLong => format!("at {key} an edge would pass 64 bytes"),
+        Refusal::TooLong => format!("at {key} an edge would pass {MAX_LEN} bytes"),
         Refusal::AlreadyPivot => format!("{key} is already a pivot"),
         _ => refusal.meaning().into(),
     }

@@ -4,14 +4,12 @@ mod blocks;
 mod lines;
 mod rows;
 
-use crate::arguments::{read_key, Arguments, STREAM};
-use crate::failure::{Done, Failure, REFUSED};
+use crate::arguments::{Arguments, STREAM};
+use crate::failure::{Done, Failure, Refused, REFUSED};
 use crate::{files, output, Streams};
-use answer::{answer, refused, Answer};
+use answer::{answer, Answer};
 use blocks::Blocks;
-use joistdenim::{Table, TextError};
-use std::ffi::OsStr;
-use std::os::unix::ffi::OsStrExt;
+use joistdenim::Table;
 
 pub fn run(arguments: &Arguments, streams: &mut Streams) -> Done {
     let [table, keys @ ..] = &arguments.rest[..] else {
@@ -21,6 +19,12 @@ pub fn run(arguments: &Arguments, streams: &mut Streams) -> Done {
         return Err(arguments.wrong("show takes keys, or - for keys on standard input"));
     }
     arguments.one_stream()?;
+    // Wrong usage is told before anything is shown.
+    let asked = keys.iter().map(|key| match key == STREAM {
+        true => Ok(None),
+        false => arguments.bytes(key).map(Some),
+    });
+    let asked: Vec<Option<Vec<u8>>> = asked.collect::<Result<_, Failure>>()?;
     let as_written = arguments.has("--text");
     let form = match arguments.has("--tsv") {
         true => Form::Rows,
@@ -33,21 +37,15 @@ pub fn run(arguments: &Arguments, streams: &mut Streams) -> Done {
         form,
         status: 0,
     };
-    // Wrong usage is told before anything is shown.
-    for key in keys.iter().filter(|key| *key != STREAM) {
-        show.of_argument(key, arguments)?;
-    }
     if let Form::Rows = show.form {
         output::print(streams, rows::HEADER.as_bytes())?;
     }
-    for key in keys {
-        if key == STREAM {
-            show.lines(streams)?;
-        } else {
-            let answer = show.of_argument(key, arguments)?;
-            let in_place = matches!(show.form, Form::Rows);
-            show.tell(&answer, in_place, streams)?;
-        }
+    let in_place = matches!(show.form, Form::Rows);
+    for key in asked {
+        match key {
+            Some(key) => show.tell(&show.answer(key), in_place, streams)?,
+            None => show.lines(streams)?,
+        };
     }
     Ok(show.status)
 }
@@ -65,30 +63,11 @@ enum Form {
 }
 
 impl Show {
-    fn of_argument(&self, word: &OsStr, arguments: &Arguments) -> Result<Answer, Failure> {
-        let answer = self.of_bytes(word.as_bytes());
-        answer.map_err(|error| arguments.no_key(word, &error))
-    }
-
-    /// What becomes of a key, or its refusal; unless the bytes aren't hexadecimal.
-    fn of_bytes(&self, bytes: &[u8]) -> Result<Answer, TextError> {
-        let error = match read_key(bytes, self.as_written) {
-            Ok(key) => return Ok(answer(&self.table, &key)),
-            Err(error) => error,
-        };
-        let refusal = error.refusal().ok_or(error)?;
-        let digits = match self.as_written {
-            true => bytes.iter().map(|byte| format!("{byte:02x}")).collect(),
-            false => String::from_utf8_lossy(bytes).to_ascii_lowercase(),
-        };
-        Ok(refused(digits, refusal, error.to_string()))
-    }
-
     /// A refusal is told on standard error. It has its answer on standard output too where each
     /// key has one, in its place: for keys on standard input, and in rows.
     fn tell(&mut self, answer: &Answer, in_place: bool, streams: &mut Streams) -> Done {
-        if let Err((refusal, text)) = &answer.renamed {
-            self.fail(&Failure::Refused(*refusal, text.clone()), streams);
+        if let Err(Refused { refusal, text }) = &answer.renamed {
+            self.fail(&Failure::refused(*refusal, text), streams);
             if !in_place {
                 return Ok(REFUSED);
             }
@@ -106,7 +85,7 @@ impl Show {
             let Some(line) = lines::next(streams)? else {
                 break;
             };
-            match lines::key(&line, self.as_written).and_then(|key| self.of_line(key)) {
+            match self.of_line(&line) {
                 Ok(answer) => self.tell(&answer, true, streams)?,
                 Err(fault) => self.unread(&fault.at_line(number), streams)?,
             };
@@ -114,8 +93,12 @@ impl Show {
         Ok(0)
     }
 
-    fn of_line(&self, key: lines::Key) -> Result<Answer, lines::Fault> {
-        self.of_bytes(key.bytes).map_err(|error| key.fault(&error))
+    fn of_line(&self, line: &[u8]) -> Result<Answer, lines::Fault> {
+        Ok(self.answer(lines::key(line, self.as_written)?))
+    }
+
+    fn answer(&self, key: Vec<u8>) -> Answer {
+        answer(&self.table, key, self.as_written)
     }
 
     /// A line that is no key.

@@ -73,7 +73,7 @@ fn what_is_no_bucket() {
     for (text, said) in [
         (
             "41",
-            "1, column 1: a line of a bucket has a key and a number, and this has 1 fields",
+            "1, column 1: a line of a bucket has 2 fields, a key and a number, and this has 1",
         ),
         ("41 7\n4x 8\n", "2, column 2: 'x' is no hexadecimal digit"),
         (
@@ -93,14 +93,30 @@ fn what_is_no_bucket() {
 
 #[test]
 fn what_are_no_entries() {
-    let one = entries(&[(b"A0", 7)]);
-    let shape =
-        "refused 1: standard input: a slice isn't the records, entries or pair it should be";
-    let malformed = "refused 2: standard input: a malformed record or pair, a wrong mark, or a key over 64 bytes";
+    let two = entries(&[(b"A0", 7), (b"B", 8)]);
     let translate = |bytes: &[u8]| ran("bucket translate --bytes 41 43 -", bytes);
-    translate(&one[..69]).failed(1, shape);
-    translate(&one.repeat(513)).failed(1, shape);
-    translate(&[0xFF; 70]).failed(1, malformed);
+    let shape = |length| {
+        format!(
+            "refused 1: standard input has {length} bytes, and a bucket at most 512 entries of 70"
+        )
+    };
+    translate(&two[..139]).failed(1, &shape("139"));
+    translate(&two.repeat(257)).failed(1, &shape("over 35840"));
+    let text = "refused 1: standard input is text; without --bytes it is read";
+    translate(BUCKET.as_bytes()).failed(1, text);
+    let wrong = [&two[..], &[0xFF; 70]].concat();
+    let line = "refused 2: standard input, entry 2: a malformed record, or a wrong mark";
+    translate(&wrong).failed(1, line);
     let hint = "joistdenim: standard input is no text; with --bytes entries are read";
-    ran("bucket translate 41 43 -", one).failed(2, hint);
+    ran("bucket translate 41 43 -", two).failed(2, hint);
+}
+
+#[test]
+fn of_two_refusals_the_buckets_comes_first() {
+    let long = "41".repeat(65);
+    let many = "41 7\n".repeat(513);
+    let line = "refused 1: standard input, line 513, column 1: a bucket has at most 512 entries";
+    ran(&format!("bucket translate {long} 43 -"), many).failed(1, line);
+    let wrong = "refused 2: standard input, entry 0: a malformed record, or a wrong mark";
+    ran(&format!("bucket translate --bytes 43 {long} -"), [0xFF; 70]).failed(1, wrong);
 }

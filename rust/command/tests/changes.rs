@@ -101,3 +101,51 @@ fn other_refusals() {
     refused("cut right - 4134ff05", &long, line);
     refused("insert - 4134ff05", &long, line);
 }
+
+/// Of several refusals the one is told that the library's call answers: 1 of each argument, then 2
+/// of each, and so on.
+#[test]
+fn the_first_refusal_over_all_arguments() {
+    let folder = Folder::new();
+    let mut unsorted = table("41 -\n42\n");
+    unsorted[4] = 0x43;
+    let mut marked = table("41 -\n42\n");
+    marked[2..5].copy_from_slice(&[0xFF, 0xFF, 0]);
+    let short = table(SHORT_T)[..331].to_vec();
+    let long = "41".repeat(65);
+    let [unsorted, marked, short] = [("unsorted", unsorted), ("marked", marked), ("short", short)]
+        .map(|(name, bytes)| folder.with(name, bytes));
+    let rises = "pivot 1: pivots don't rise strictly";
+    let mark = "pivot 0: a malformed record, or a wrong mark";
+    let key = format!("2: {long} has 65 bytes, and a key has at most 64");
+    for (arguments, line) in [
+        (
+            format!("join {unsorted} {marked}"),
+            format!("2: {marked}, {mark}"),
+        ),
+        (
+            format!("join {marked} {unsorted}"),
+            format!("2: {marked}, {mark}"),
+        ),
+        (
+            format!("join {unsorted} {unsorted}"),
+            format!("3: {unsorted}, {rises}"),
+        ),
+        (
+            format!("cut left {unsorted} 41"),
+            format!("3: {unsorted}, {rises}"),
+        ),
+        (format!("cut left {unsorted} {long}"), key.clone()),
+        (
+            format!("cut right {marked} {long}"),
+            format!("2: {marked}, {mark}"),
+        ),
+        (format!("insert {unsorted} {long}"), key),
+        (
+            format!("insert {short} {long}"),
+            format!("1: {short} has 331 bytes, and a table of 3 pivots has 332"),
+        ),
+    ] {
+        ran(&arguments, "").failed(1, &format!("refused {line}"));
+    }
+}

@@ -4,7 +4,7 @@ mod support;
 
 use std::fs;
 use std::os::unix::fs::symlink;
-use support::{ran, root, shell, Folder};
+use support::{ran, root, same, shell, Folder};
 
 const COMMANDS: [&str; 8] = [
     "list", "table", "show", "cut", "insert", "join", "check", "bucket",
@@ -120,18 +120,21 @@ fn lines_of_the_document_run() {
 #[test]
 fn the_document_has_the_text_of_help() {
     let blocks = blocks(&document("docs/COMMAND.md"));
-    let texts = blocks
+    let mut texts = blocks
         .iter()
         .filter(|block| block.starts_with("joistdenim"));
-    let mut wanted = vec![ran("--help", "").text()];
-    wanted.extend(COMMANDS.map(|name| ran(&format!("{name} --help"), "").text()));
-    assert_eq!(texts.cloned().collect::<Vec<_>>(), wanted);
+    let mut next = || texts.next().expect("the text of help");
+    same(next(), &ran("--help", "").text());
+    for name in COMMANDS {
+        same(next(), &ran(&format!("{name} --help"), "").text());
+    }
+    assert_eq!(texts.next(), None);
 }
 
 #[test]
 fn the_manual_page_is_what_is_printed() {
     let page = ran("--man", "").text();
-    assert_eq!(document("docs/joistdenim.1"), page);
+    same(&document("docs/joistdenim.1"), &page);
     for name in COMMANDS {
         assert!(page.contains(&format!("\n.SS joistdenim {name} ")));
     }

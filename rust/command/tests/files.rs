@@ -1,37 +1,10 @@
-//! Files and streams, by the program itself: what is written whole or not at all, files that can't
-//! be read or written, full disks, closed pipes, and terminals.
+//! Files, by the program itself: what is written whole or not at all, a full disk, and files that
+//! can't be read or written.
 mod support;
 
 use std::fs;
 use std::os::unix::fs::{symlink, PermissionsExt};
-use std::process::Output;
-use support::{shell, table, Folder, LIST_OF_T, SHORT_T};
-
-/// A folder with T as t.table, and 64 pivots as large.table, which has more than a thousand bytes.
-fn folder() -> Folder {
-    let folder = Folder::new();
-    folder.with("t.table", table(SHORT_T));
-    let lines: String = (0..63).map(|i| format!("41{i:02x} -\n")).collect();
-    folder.with("large.table", table(&format!("{lines}42\n")));
-    folder
-}
-
-fn errors(output: &Output) -> String {
-    String::from_utf8(output.stderr.clone()).expect("messages are text")
-}
-
-/// This status and line on standard error, and nothing on standard output.
-#[track_caller]
-fn failed(output: &Output, status: i32, line: &str) {
-    assert_eq!(output.status.code(), Some(status));
-    assert_eq!(errors(output), format!("{line}\n"));
-    assert_eq!(output.stdout, b"");
-}
-
-#[track_caller]
-fn quiet(output: &Output) {
-    assert_eq!((output.status.code(), errors(output)), (Some(0), "".into()));
-}
+use support::{errors, failed, folder, quiet, shell, table, LIST_OF_T, SHORT_T};
 
 #[test]
 fn a_result_goes_into_a_file() {
@@ -65,7 +38,7 @@ fn a_result_goes_into_a_file() {
 #[test]
 fn the_file_that_was_read_may_be_written() {
     let folder = folder();
-    fs::set_permissions(folder.at("t.table"), fs::Permissions::from_mode(0o640)).expect("mode");
+    fs::set_permissions(folder.at("t.table"), fs::Permissions::from_mode(0o4640)).expect("mode");
     symlink("t.table", folder.at("link")).expect("a link");
     quiet(&shell("joistdenim insert link 4131 -o link", folder.path()));
     let written = fs::read(folder.at("t.table")).expect("the table");
@@ -74,11 +47,31 @@ fn the_file_that_was_read_may_be_written() {
         .expect("it is there")
         .permissions()
         .mode();
-    assert_eq!(mode & 0o777, 0o640);
+    assert_eq!(mode & 0o7777, 0o640);
     assert!(fs::symlink_metadata(folder.at("link"))
         .expect("it is there")
         .is_symlink());
     assert_eq!(folder.names(), ["large.table", "link", "t.table"]);
+}
+
+#[test]
+fn a_link_and_a_long_name_are_written_to() {
+    let folder = folder();
+    fs::create_dir(folder.at("new")).expect("a folder");
+    symlink("new/first", folder.at("link")).expect("a link");
+    symlink("link", folder.at("second")).expect("a link to it");
+    quiet(&shell("joistdenim list t.table -o second", folder.path()));
+    let made = fs::symlink_metadata(folder.at("new/first")).expect("it is there");
+    assert!(made.is_file());
+    let long = "n".repeat(255);
+    quiet(&shell(
+        &format!("joistdenim list t.table -o {long}"),
+        folder.path(),
+    ));
+    assert_eq!(
+        fs::read(folder.at(&long)).expect("the list"),
+        LIST_OF_T.as_bytes()
+    );
 }
 
 #[test]
@@ -120,45 +113,6 @@ fn on_a_full_disk_the_file_is_as_it_was() {
         b"as it was"
     );
     assert_eq!(folder.names(), before);
-}
-
-#[test]
-fn a_full_standard_output_is_told() {
-    let folder = folder();
-    let line = "joistdenim: standard output: No space left on device (os error 28)";
-    for arguments in [
-        "list t.table",
-        "cut left t.table 4131",
-        "show t.table 4131",
-        "show --tsv t.table 4131",
-        "check t.table",
-        "--help",
-        "--version",
-        "--man",
-    ] {
-        let written = shell(&format!("joistdenim {arguments} >/dev/full"), folder.path());
-        failed(&written, 2, line);
-    }
-}
-
-#[test]
-fn a_closed_pipe_ends_it_quietly() {
-    let folder = folder();
-    for arguments in [
-        "list t.table",
-        "cut left t.table 4131",
-        "show t.table 4131",
-        "--man",
-    ] {
-        let line = format!("(sleep 0.2; joistdenim {arguments}; echo $? >status) | true");
-        quiet(&shell(&line, folder.path()));
-        assert_eq!(fs::read(folder.at("status")).expect("a status"), b"0\n");
-    }
-    let endless = "(yes 4131 | joistdenim show t.table -; echo $? >status) | head -n 1";
-    let first = shell(endless, folder.path());
-    quiet(&first);
-    assert_eq!(first.stdout, b"key      4131\n");
-    assert_eq!(fs::read(folder.at("status")).expect("a status"), b"0\n");
 }
 
 #[test]
@@ -224,46 +178,13 @@ fn files_that_cant_be_written() {
         2,
         "joistdenim: .: not a file that can be replaced",
     );
-    failed(
-        &cut("/dev/full"),
-        2,
-        "joistdenim: /dev/full: not a file that can be replaced",
-    );
+    for path in ["/dev/full", "/dev/stdout", "/proc/self/fd/1"] {
+        let line = format!("joistdenim: {path}: not a file that can be replaced");
+        let log = shell(
+            &format!("joistdenim list t.table -o {path} >>large.table"),
+            folder.path(),
+        );
+        failed(&log, 2, &line);
+    }
     assert_eq!(folder.names(), before);
-}
-
-/// A line as a terminal shows it; its lines end with CR LF there.
-fn on_terminal(line: &str, folder: &Folder) -> String {
-    let run = format!("script -qec '{line}' /dev/null </dev/null");
-    let shown = shell(&run, folder.path()).stdout;
-    String::from_utf8(shown)
-        .expect("text")
-        .replace("\r\n", "\n")
-}
-
-#[test]
-fn a_terminal_has_colour_and_no_bytes() {
-    let folder = folder();
-    let show = "joistdenim show t.table 413107";
-    let coloured = |shown: &str| shown.contains("\x1b[31m41\x1b[0m3107\n");
-    let marked = |shown: &str| shown.contains("413107\n         ^^ replaced\n");
-    assert!(coloured(&on_terminal(
-        &format!("TERM=xterm {show}"),
-        &folder
-    )));
-    assert!(coloured(&on_terminal(
-        &format!("NO_COLOR= TERM=xterm {show}"),
-        &folder
-    )));
-    assert!(marked(&on_terminal(
-        &format!("NO_COLOR=1 TERM=xterm {show}"),
-        &folder
-    )));
-    assert!(marked(&on_terminal(&format!("TERM=dumb {show}"), &folder)));
-    let piped = shell(&format!("TERM=xterm {show}"), folder.path());
-    assert!(marked(&String::from_utf8(piped.stdout).expect("text")));
-    let bytes = on_terminal("joistdenim cut left t.table 4131; echo $?", &folder);
-    let line = "joistdenim: the result is bytes and not for a terminal: give -o FILE; \
-                'joistdenim cut --help' tells more\n2\n";
-    assert_eq!(bytes, line);
 }

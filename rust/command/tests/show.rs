@@ -125,6 +125,17 @@ fn a_refused_key_is_told() {
 }
 
 #[test]
+fn a_refused_key_is_shown_as_it_is_written() {
+    let shown = lines("--text", b"B\n\n");
+    let goes = "outside the table, which goes from 4130 up to, but without, 42";
+    let output = format!(
+        "key      42 \"B\"\nrefused  5: 42 \"B\" is {goes}\n\n\
+         key      - (empty)\nrefused  5: - (empty) is {goes}\n"
+    );
+    assert_eq!(String::from_utf8(shown.output).unwrap(), output);
+}
+
+#[test]
 fn rows_have_an_answer_for_each_key() {
     let long = "41".repeat(65);
     let shown = of_t(&format!("show --tsv T 413107 42 4135 {long}"));
@@ -132,7 +143,7 @@ fn rows_have_an_answer_for_each_key() {
                 4135\t1\t4135\t42\t41\t-\t4135\t0\n";
     let output = format!("{HEADER}{rows}{long}\t\t\t\t\t\t\t2\n");
     assert_eq!(String::from_utf8(shown.output).unwrap(), output);
-    let too_long = "a key has at most 64 bytes, and this one has 65";
+    let too_long = format!("{long} has 65 bytes, and a key has at most 64");
     let errors = format!("refused 5: {OUTSIDE}\nrefused 2: {too_long}\n");
     assert_eq!((shown.status, shown.errors), (1, errors));
     let long = table(&format!("4130 {}\n4135\n", "43".repeat(63)));
@@ -160,6 +171,7 @@ fn each_line_has_an_answer_in_its_place() {
         .ends_with("standard input, line 2, column 4: 'g' is no hexadecimal digit\n"));
     assert_eq!(rows.status, 2);
     assert_eq!(lines("", b"42\n").status, 1);
+    assert_eq!(lines("", b"4g\n42\n").status, 2);
     assert_eq!(lines("", b"413107\n").text(), BLOCK);
     assert_eq!(lines("", b"").text(), "");
 }
@@ -173,6 +185,12 @@ fn lines_as_text_are_taken_as_they_stand() {
         .map(|row| row.split('\t').next().unwrap())
         .collect();
     assert_eq!(keys, ["key", "413120", "4131ff", "-"]);
+    let unclear = lines("--text --tsv", b"A1\r\n\rA\n");
+    let line = "line 1, column 3: whether this CR ends the line or the key can't be told\n";
+    assert!(unclear
+        .errors
+        .starts_with(&format!("joistdenim: standard input, {line}")));
+    assert_eq!(unclear.status, 2);
 }
 
 #[test]

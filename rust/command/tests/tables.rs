@@ -49,16 +49,11 @@ fn tables_are_read_from_files_too() {
 fn a_refused_table_has_no_list() {
     let t = table(SHORT_T);
     let name = "standard input";
-    let mark = "a malformed record or pair, a wrong mark, or a key over 64 bytes";
+    let mark = "a malformed record, or a wrong mark";
+    let short = format!("1: {name} is too short: the smallest table has 200 bytes");
     let cases = [
-        (
-            vec![],
-            format!("1: {name} has 0 bytes, and no table has so few"),
-        ),
-        (
-            vec![0],
-            format!("1: {name} has 1 bytes, and no table has so few"),
-        ),
+        (vec![], short.clone()),
+        (vec![0], short),
         (
             t[..331].to_vec(),
             format!("1: {name} has 331 bytes, and a table of 3 pivots has 332"),
@@ -79,23 +74,23 @@ fn a_refused_table_has_no_list() {
             SHORT_T.into(),
             format!("1: {name} is text; 'joistdenim table' makes a table of a list"),
         ),
-        (changed(68, &[0, 65]), format!("2: {name}, slot 0: {mark}")),
-        (changed(199, &[1]), format!("2: {name}, slot 1: {mark}")),
+        (changed(68, &[0, 65]), format!("2: {name}, pivot 1: {mark}")),
+        (changed(199, &[1]), format!("2: {name}, pivot 2: {mark}")),
         (
             changed(266, &[0xFF, 0xFF]),
-            format!("2: {name}, slot 1: {mark}"),
+            format!("2: {name}, edge 1: {mark}"),
         ),
         (
             changed(71, b"0"),
-            format!("3: {name}, slot 0: pivots don't rise strictly"),
+            format!("3: {name}, pivot 1: pivots don't rise strictly"),
         ),
         (
             changed(136, b"A"),
-            format!("3: {name}, slot 1: pivots don't rise strictly"),
+            format!("3: {name}, pivot 2: pivots don't rise strictly"),
         ),
         (
             changed(4, b"@"),
-            format!("4: {name}, slot 0: an edge where the range's prefix is empty"),
+            format!("4: {name}, edge 0: an edge where the range's prefix is empty"),
         ),
     ];
     for (input, text) in cases {
@@ -196,7 +191,7 @@ fn tables_are_checked_each() {
     let none = folder.at("none");
     let well = format!("{good}: well formed, 3 pivots, 2 slots, 1 with an edge\n");
     let of_all = format!("{all}: well formed, 5 pivots, 4 slots, 1 with an edge, all keys\n");
-    let refused = format!("refused 3: {bad}, slot 0: pivots don't rise strictly\n");
+    let refused = format!("refused 3: {bad}, pivot 1: pivots don't rise strictly\n");
     let missing = format!("joistdenim: {none}: No such file or directory (os error 2)\n");
     let checked = ran(&format!("check {good} {all}"), "");
     assert_eq!(checked.text(), format!("{well}{of_all}"));
@@ -206,6 +201,12 @@ fn tables_are_checked_each() {
     let checked = ran(&format!("check {none} {bad} {all}"), "");
     assert_eq!((checked.status, checked.errors), (2, missing + &refused));
     assert_eq!(checked.output, of_all.as_bytes());
-    let line = "standard input: well formed, 3 pivots, 2 slots, 1 with an edge\n";
-    assert_eq!(ran("check -", table(SHORT_T)).text(), line);
+    let line = "standard input: well formed, 2 pivots, 1 slot, 0 with an edge\n";
+    assert_eq!(ran("check -", table("41 -\n42\n")).text(), line);
+    let report = folder.at("report");
+    assert_eq!(ran(&format!("check {good} -o {report}"), "").text(), "");
+    assert_eq!(fs::read(&report).expect("a report"), well.as_bytes());
+    let checked = ran(&format!("check {good} {bad} -o {report}2"), "");
+    checked.failed(1, refused.trim_end());
+    assert!(fs::metadata(format!("{report}2")).is_err());
 }

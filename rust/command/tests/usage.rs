@@ -53,7 +53,11 @@ fn wrong_commands_and_options() {
         );
         wrong(&format!("{name} -x"), "there is no option \"-x\"", &help);
     }
-    wrong("check -o t", "there is no option \"-o\"", "check --help");
+    for option in ["--version", "-V", "--man"] {
+        let text = format!("{option} stands alone");
+        wrong(&format!("{option} list"), &text, "--help");
+    }
+    wrong("list t -o a -o b", "-o is given twice", "list --help");
     wrong("show -o t", "there is no option \"-o\"", "show --help");
     wrong("list --tsv", "there is no option \"--tsv\"", "list --help");
     wrong("list t -o", "-o needs a file", "list --help");
@@ -145,12 +149,18 @@ fn what_is_no_key_is_wrong_usage() {
 #[test]
 fn a_key_over_64_bytes_is_refused() {
     let t = support::table(SHORT_T);
-    let line = "refused 2: a key has at most 64 bytes, and this one has 65";
     let (digits, letters) = ("41".repeat(65), "A".repeat(65));
-    for arguments in ["show - KEY", "cut left - KEY", "insert - KEY"] {
+    let line = &format!("refused 2: {digits} has 65 bytes, and a key has at most 64");
+    let shown =
+        &format!("refused 2: {digits} \"{letters}\" has 65 bytes, and a key has at most 64");
+    for (arguments, as_text) in [
+        ("show - KEY", shown),
+        ("cut left - KEY", line),
+        ("insert - KEY", line),
+    ] {
         ran(&arguments.replace("KEY", &digits), &t).failed(1, line);
         let as_written = format!("{arguments} --text").replace("KEY", &letters);
-        ran(&as_written, &t).failed(1, line);
+        ran(&as_written, &t).failed(1, as_text);
     }
     ran(&format!("bucket translate {digits} 43 -"), "").failed(1, line);
     ran(&format!("bucket translate 41 {digits} -"), "").failed(1, line);
@@ -165,6 +175,6 @@ fn options_stand_anywhere_before_two_hyphens() {
     let below = ran("show --text - -- -A", &t);
     below.failed(
         1,
-        "refused 5: 2d41 is outside the table, which goes from 4130 up to, but without, 42",
+        "refused 5: 2d41 \"-A\" is outside the table, which goes from 4130 up to, but without, 42",
     );
 }

@@ -57,12 +57,12 @@ pub use refusal::Refusal;
 pub use renaming::{
     parent_keys_in_child_range, translate_edges, translate_pivot_pair, translate_pivots,
 };
-pub use table::{Slot, Table};
+pub use table::{RecordPlace, Slot, Table};
 pub use tables::{
     bounded_key, contains_all_keys, contains_range, cutoff_for_left, cutoff_for_right, get_key,
     init_pivot_table, pivot_insertable, route, valid_left_cut_off_key, wf_edges, wf_pivots,
 };
-pub use text::TextError;
+pub use text::{from_hex, TextError};
 
 /// The longest key, in bytes.
 pub const MAX_LEN: usize = 64;

@@ -3,7 +3,7 @@ use crate::cuts::{insert_pivot, join, split_left, split_right, translate_key};
 use crate::edge::Edge;
 use crate::element::Element;
 use crate::key::Key;
-use crate::keys::pivot_lcp;
+use crate::keys::{pivot_key, pivot_lcp};
 use crate::list::list_table;
 use crate::pair::Pair;
 use crate::refusal::Refusal;
@@ -50,6 +50,13 @@ pub struct Slot {
     pub edge: Edge,
 }
 
+/// A record of a table, the pivots and the edges each counted from 0.
+#[derive(Clone, Copy, Debug, PartialEq, Eq, Hash)]
+pub enum RecordPlace {
+    Pivot(usize),
+    Edge(usize),
+}
+
 impl Table {
     /// The table of these pivots and edges. Refuses 1, 2, 3, 4.
     pub fn new(pivots: &[Element], edges: &[Edge]) -> Result<Self, Refusal> {
@@ -74,13 +81,18 @@ impl Table {
         Some(records.split_at(pivots.min(records.len())))
     }
 
-    /// The first slot of a table refused with 2, 3 or 4 that is refused so as a table of its own.
-    pub fn refused_slot(pivots: &[u8], edges: &[u8]) -> Option<usize> {
-        let refusal = wf_edges(pivots, edges).err()?;
-        let bounds = pivots.windows(2 * RECORD_SIZE).step_by(RECORD_SIZE);
-        let mut slots = bounds.zip(edges.chunks(RECORD_SIZE));
-        let slot = slots.position(|(bounds, edge)| wf_edges(bounds, edge) == Err(refusal));
-        slot.filter(|_| refusal != Refusal::Shape)
+    /// Where these records are at fault, if they are refused with 2, 3 or 4: at the first one that
+    /// is malformed or has a wrong mark, pivots before edges; at the upper one of the first two
+    /// pivots that don't rise; at the first edge over an empty prefix.
+    pub fn refused_record(pivots: &[u8], edges: &[u8]) -> Option<RecordPlace> {
+        match wf_edges(pivots, edges).err()? {
+            Refusal::Malformed => malformed(pivots, edges),
+            Refusal::Unsorted => {
+                refused_slot(pivots, edges).map(|slot| RecordPlace::Pivot(slot + 1))
+            }
+            Refusal::EmptyPrefix => refused_slot(pivots, edges).map(RecordPlace::Edge),
+            _ => None,
+        }
     }
 
     /// The first table: one slot, of all keys, without an edge.
@@ -179,6 +191,28 @@ impl Table {
         let (a, b) = (self.records(), second.records());
         written(|pivots, edges| join(a.0, a.1, b.0, b.1, pivots, edges))
     }
+}
+
+fn malformed(pivots: &[u8], edges: &[u8]) -> Option<RecordPlace> {
+    let last = pivots.len() / RECORD_SIZE - 1;
+    let mut pivots = pivots.chunks(RECORD_SIZE).enumerate();
+    let pivot = pivots.position(|(place, pivot)| match place == last {
+        true => Element::try_from(pivot).is_err(),
+        false => pivot_key(pivot).is_err(),
+    });
+    let mut edges = edges.chunks(RECORD_SIZE).map(Edge::try_from);
+    let edge = edges.position(|edge| edge.is_err());
+    pivot
+        .map(RecordPlace::Pivot)
+        .or(edge.map(RecordPlace::Edge))
+}
+
+/// The first slot that is refused as the whole is, as a table of its own.
+fn refused_slot(pivots: &[u8], edges: &[u8]) -> Option<usize> {
+    let whole = wf_edges(pivots, edges);
+    let bounds = pivots.windows(2 * RECORD_SIZE).step_by(RECORD_SIZE);
+    let mut slots = bounds.zip(edges.chunks(RECORD_SIZE));
+    slots.position(|(bounds, edge)| wf_edges(bounds, edge) == whole)
 }
 
 /// The records of pivots and edges.

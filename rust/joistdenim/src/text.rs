@@ -57,6 +57,15 @@ impl Error for TextError {}
 
 /// The key of hexadecimal digits.
 pub fn key_of(digits: &str) -> Result<Key, TextError> {
+    let bytes = from_hex(digits)?;
+    Key::try_from(&bytes[..]).map_err(|refusal| TextError::Refused {
+        refusal,
+        length: bytes.len(),
+    })
+}
+
+/// The bytes of hexadecimal digits of either case, as many as there are.
+pub fn from_hex(digits: &str) -> Result<Vec<u8>, TextError> {
     let mut bytes = vec![];
     let mut high = None;
     for (place, found) in digits.chars().enumerate() {
@@ -68,10 +77,7 @@ pub fn key_of(digits: &str) -> Result<Key, TextError> {
         }
     }
     match high {
-        None => Key::try_from(&bytes[..]).map_err(|refusal| TextError::Refused {
-            refusal,
-            length: bytes.len(),
-        }),
+        None => Ok(bytes),
         Some(_) => Err(TextError::HalfByte {
             place: digits.len(),
         }),

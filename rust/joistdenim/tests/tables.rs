@@ -1,6 +1,6 @@
 //! Tables as values: what they are made of, what they refuse, and that their methods hand on what
 //! the calls answer.
-use joistdenim::{wf_edges, Edge, Element, Key, Refusal, Table, MAX_PIVOTS};
+use joistdenim::{wf_edges, Edge, Element, Key, RecordPlace, Refusal, Table, MAX_PIVOTS};
 
 fn key(text: &str) -> Key {
     text.parse().expect("a key")
@@ -130,7 +130,7 @@ fn a_table_has_at_most_64_pivots() {
 }
 
 #[test]
-fn the_slot_of_a_refused_table_is_found() {
+fn the_record_that_is_at_fault_is_found() {
     let records = |text: &str| {
         let elements = text.split(' ').map(|text| text.parse::<Element>().unwrap());
         elements
@@ -139,19 +139,24 @@ fn the_slot_of_a_refused_table_is_found() {
     };
     let absent = Edge::Absent.record().repeat(2);
     let edge = [*Edge::Absent.record(), *key("43").record()].concat();
+    let wrong = [*Edge::Absent.record(), *Element::Max.record()].concat();
     let cases = [
         ("41 42 43", &absent, None),
-        ("41 42 42", &absent, Some(1)),
-        ("42 41 43", &absent, Some(0)),
-        ("41 max 42", &absent, Some(1)),
-        ("41 42 4300", &edge, Some(1)),
+        ("41 42 42", &absent, Some(RecordPlace::Pivot(2))),
+        ("42 41 40", &absent, Some(RecordPlace::Pivot(1))),
+        ("41 max 42", &absent, Some(RecordPlace::Pivot(1))),
+        ("41 max max", &wrong, Some(RecordPlace::Pivot(1))),
+        ("41 42 max", &wrong, Some(RecordPlace::Edge(1))),
+        ("43 42 41", &wrong, Some(RecordPlace::Edge(1))),
+        ("41 42 4300", &edge, Some(RecordPlace::Edge(1))),
         ("41 42", &absent, None),
+        ("42 41", &wrong, None),
     ];
-    for (pivots, edges, slot) in cases {
-        assert_eq!(
-            Table::refused_slot(&records(pivots), edges),
-            slot,
-            "{pivots}"
-        );
+    for (pivots, edges, place) in cases {
+        let found = Table::refused_record(&records(pivots), edges);
+        assert_eq!(found, place, "{pivots}");
     }
+    let last = [&records("41 42")[..], &[1; 66]].concat();
+    let found = Table::refused_record(&last, &absent);
+    assert_eq!(found, Some(RecordPlace::Pivot(2)));
 }

@@ -65,6 +65,7 @@ fn a_list_may_be_written_otherwise() {
         &format!("\u{feff}{LIST_OF_T}"),
         &format!("  {}", LIST_OF_T.trim_end()),
         &LIST_OF_T["slot\tleft\tright\tshared\tedge\n".len()..],
+        &LIST_OF_T.replace("slot\tleft", "Slot\tLEFT"),
     ]);
     let capitals = "0 4A 4B 4A 4C\n".parse::<Table>().expect("capitals");
     assert_eq!(capitals, "0 4a 4b 4a 4c\n".parse().expect("small letters"));
@@ -135,7 +136,14 @@ fn faults_of_a_list() {
             &at("4130", "413"),
             (2, 6, "a byte has two digits, and the last has one", 0),
         ),
-        (&at("4130", "max"), (2, 3, "'m' is no hexadecimal digit", 0)),
+        (
+            &at("4130", "max"),
+            (2, 3, "max can only be the end of the table", 0),
+        ),
+        (
+            &at("4130", "4130\u{a0}"),
+            (2, 7, "'\\u{a0}' is no hexadecimal digit", 0),
+        ),
         (
             &at("41 43", ". 43"),
             (2, 13, "'.' is no hexadecimal digit", 0),
@@ -169,6 +177,11 @@ fn faults_of_the_short_form() {
         ("4130 43\n4135 -", (3, 1, missing, 0)),
         ("4130\n4135 -\n42\n", (2, 1, after, 0)),
         ("4130 43 -\n42\n", (1, 9, third, 0)),
+        ("4130 é -\n42\n", (1, 8, third, 0)),
+        (
+            "4130 43\nmax -\n",
+            (2, 1, "max can only be the end of the table", 0),
+        ),
         ("4130 é\n42\n", (1, 6, "'é' is no hexadecimal digit", 0)),
         ("é 43\n42\n", (1, 1, "'é' is no hexadecimal digit", 0)),
         ("4130\t\t4x\n42\n", (1, 8, "'x' is no hexadecimal digit", 0)),
@@ -228,8 +241,9 @@ fn buckets_are_read() {
 #[test]
 fn faults_of_buckets() {
     let number = "a number goes from 0 to 4294967295";
-    let fields =
-        |count| format!("a line of a bucket has a key and a number, and this has {count} fields");
+    let fields = |count| {
+        format!("a line of a bucket has 2 fields, a key and a number, and this has {count}")
+    };
     let many = "41 7\n".repeat(513);
     let cases = [
         ("41", (1, 1, fields(1), 0)),

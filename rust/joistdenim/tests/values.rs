@@ -1,6 +1,7 @@
 //! Keys, elements, edges and buckets as values: what they are made of, and what they refuse.
 use joistdenim::{
-    Bucket, Edge, Element, Entry, Key, Refusal, TextError, ENTRY_SIZE, MAX_ENTRIES, RECORD_SIZE,
+    from_hex, Bucket, Edge, Element, Entry, Key, Refusal, TextError, ENTRY_SIZE, MAX_ENTRIES,
+    RECORD_SIZE,
 };
 use std::collections::HashSet;
 
@@ -96,6 +97,8 @@ fn a_text_that_is_no_key_is_told_with_its_place() {
     assert_eq!(error.refusal(), Some(Refusal::Malformed));
     let said = "a key has at most 64 bytes, and this one has 65";
     assert_eq!(error.to_string(), said);
+    assert_eq!(from_hex(&"41".repeat(65)), Ok(vec![0x41; 65]));
+    assert_eq!(from_hex("413"), Err(half));
 }
 
 #[test]

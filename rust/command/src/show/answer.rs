@@ -1,36 +1,44 @@
 //! What becomes of a key, by the library.
-use crate::refused;
-use joistdenim::{Key, Pair, Refusal, Slot, Table};
+use crate::failure::Refused;
+use crate::refused::{self, digits, long_key};
+use joistdenim::{Key, Pair, Slot, Table};
 
 /// The answer to one key.
 pub struct Answer {
-    /// The key in hexadecimal, though it is too long to be one.
-    pub asked: String,
-    pub key: Option<Key>,
+    /// The bytes, though they may be too many for a key.
+    pub asked: Vec<u8>,
     pub slot: Option<Slot>,
     /// The renamed key and its slot's pair of prefixes, or why there is none.
-    pub renamed: Result<(Key, Pair), (Refusal, String)>,
+    pub renamed: Result<(Key, Pair), Refused>,
 }
 
-pub fn answer(table: &Table, key: &Key) -> Answer {
-    let slot = table.route(key).ok();
-    let renamed = table.translate_key(key);
-    let renamed = renamed.and_then(|renamed| Ok((renamed, table.translate(key)?)));
-    let meaning = |refusal| refused::key(table, key, slot.as_ref(), refusal);
+pub fn answer(table: &Table, asked: Vec<u8>, as_text: bool) -> Answer {
+    let shown = shown(&asked, as_text);
+    let key = Key::try_from(&asked[..]).map_err(|refusal| Refused {
+        refusal,
+        text: long_key(&shown, asked.len()),
+    });
+    let slot = key.as_ref().ok().and_then(|key| table.route(key).ok());
+    let renamed = key.and_then(|key| {
+        let renamed = table.translate_key(&key);
+        let renamed = renamed.and_then(|renamed| Ok((renamed, table.translate(&key)?)));
+        renamed.map_err(|refusal| Refused {
+            refusal,
+            text: refused::key(table, &shown, slot.as_ref(), refusal),
+        })
+    });
     Answer {
-        asked: key.to_string(),
-        key: Some(*key),
-        renamed: renamed.map_err(|refusal| (refusal, meaning(refusal))),
+        asked,
         slot,
+        renamed,
     }
 }
 
-/// Bytes that are no key.
-pub fn refused(asked: String, refusal: Refusal, text: String) -> Answer {
-    Answer {
-        asked,
-        key: None,
-        slot: None,
-        renamed: Err((refusal, text)),
+/// A key as people see it: in hexadecimal, and where keys are written as text, their characters.
+pub fn shown(key: &[u8], as_text: bool) -> String {
+    match (key, as_text) {
+        ([], _) => format!("{} (empty)", Key::EMPTY),
+        (_, true) => format!("{} \"{}\"", digits(key), key.escape_ascii()),
+        (_, false) => digits(key),
     }
 }

@@ -1,6 +1,7 @@
 //! Answers as blocks of lines, for people.
-use super::answer::Answer;
-use joistdenim::{Edge, Element, Key};
+use super::answer::{shown, Answer};
+use crate::failure::Refused;
+use joistdenim::{Edge, Element, Slot};
 
 /// What is replaced, and what stands in its place.
 const OLD: &str = "\x1b[31m";
@@ -25,22 +26,21 @@ impl Blocks {
     }
 
     pub fn block(&mut self, answer: &Answer) -> String {
-        let mut lines = match (&answer.key, &answer.slot, &answer.renamed) {
-            (Some(key), Some(slot), Ok((renamed, pair))) => {
+        let asked = &answer.asked;
+        let mut lines;
+        match &answer.renamed {
+            Ok((renamed, pair)) => {
                 let (old, new) = pair.prefixes().unwrap_or_default();
-                let mut lines = self.key("key", key, old.len(), OLD, "replaced");
-                lines.push(self.slot(slot.number, &slot.left, &slot.right));
-                lines.extend(self.key("shared", &slot.shared, 0, PLAIN, ""));
-                lines.push(self.edge(&slot.edge));
+                lines = self.key("key", asked, old.len(), OLD, "replaced");
+                lines.extend(answer.slot.iter().flat_map(|slot| self.slot(slot)));
+                let renamed = renamed.as_bytes();
                 lines.extend(self.key("renamed", renamed, new.len(), NEW, "in its place"));
-                lines
             }
-            (_, _, Ok(_)) => vec![],
-            (_, _, Err((refusal, text))) => vec![
-                line("key", &answer.asked),
-                line("refused", &format!("{}: {text}", refusal.number())),
-            ],
-        };
+            Err(Refused { refusal, text }) => {
+                lines = self.key("key", asked, 0, PLAIN, "");
+                lines.push(line("refused", &format!("{}: {text}", refusal.number())));
+            }
+        }
         lines.push(String::new());
         self.separated(lines.join("\n"))
     }
@@ -58,7 +58,7 @@ impl Blocks {
     }
 
     /// A key, the first bytes marked: by colour, or by a line below.
-    fn key(&self, label: &str, key: &Key, marked: usize, mark: &str, note: &str) -> Vec<String> {
+    fn key(&self, label: &str, key: &[u8], marked: usize, mark: &str, note: &str) -> Vec<String> {
         let text = self.shown(key);
         match marked {
             0 => vec![line(label, &text)],
@@ -73,13 +73,17 @@ impl Blocks {
         }
     }
 
-    fn slot(&self, number: usize, left: &Key, right: &Element) -> String {
-        let right = match right {
-            Element::Key(right) => self.shown(right),
-            Element::Max => right.to_string(),
+    fn slot(&self, slot: &Slot) -> [String; 3] {
+        let (number, left) = (slot.number, self.shown(slot.left.as_bytes()));
+        let right = match slot.right {
+            Element::Key(right) => self.shown(right.as_bytes()),
+            Element::Max => slot.right.to_string(),
         };
-        let text = format!("{number}, from {} up to {right}", self.shown(left));
-        line("slot", &text)
+        [
+            line("slot", &format!("{number}, from {left} up to {right}")),
+            line("shared", &self.shown(slot.shared.as_bytes())),
+            self.edge(&slot.edge),
+        ]
     }
 
     fn edge(&self, edge: &Edge) -> String {
@@ -87,18 +91,14 @@ impl Blocks {
             Edge::Prefix(prefix) if prefix.is_empty() => {
                 format!("{edge} (empty: what is replaced is taken off)")
             }
-            Edge::Prefix(prefix) => self.shown(prefix),
+            Edge::Prefix(prefix) => self.shown(prefix.as_bytes()),
             _ => format!("{edge} (none: the key stays as it is)"),
         };
         line("edge", &text)
     }
 
-    fn shown(&self, key: &Key) -> String {
-        match (key.is_empty(), self.as_text) {
-            (true, _) => format!("{key} (empty)"),
-            (_, true) => format!("{key} \"{}\"", key.as_bytes().escape_ascii()),
-            (_, false) => key.to_string(),
-        }
+    fn shown(&self, key: &[u8]) -> String {
+        shown(key, self.as_text)
     }
 }
 

@@ -1,17 +1,11 @@
 //! Keys on standard input, one a line.
+use crate::arguments::read_bytes;
 use crate::failure::Failure;
 use crate::Streams;
-use joistdenim::TextError;
 use std::io::{BufRead, Read};
 
 /// A longer line is no key, and not kept in memory.
 const MOST: usize = 1 << 16;
-
-/// The part of a line that is the key, and how many bytes stand before it.
-pub struct Key<'a> {
-    pub bytes: &'a [u8],
-    before: usize,
-}
 
 /// Why a line is no key, and from which column on.
 pub struct Fault {
@@ -32,31 +26,27 @@ pub fn next(streams: &mut Streams) -> Result<Option<Vec<u8>>, Failure> {
     Ok((read > 0).then_some(line))
 }
 
-/// A line as it is written is a key as it stands; else spaces around it are passed over.
-pub fn key(line: &[u8], as_written: bool) -> Result<Key<'_>, Fault> {
+/// The bytes of a line's key. With text a line is taken as it stands; else spaces around it are
+/// passed over.
+pub fn key(line: &[u8], as_written: bool) -> Result<Vec<u8>, Fault> {
     if line.len() > MOST {
         let text = format!("a line has at most {MOST} bytes");
-        return Err(Fault {
-            column: MOST + 1,
-            text,
-        });
+        let column = MOST + 1;
+        return Err(Fault { column, text });
+    }
+    if as_written && line.ends_with(b"\r") {
+        let text = "whether this CR ends the line or the key can't be told".into();
+        let column = line.len();
+        return Err(Fault { column, text });
     }
     if as_written {
-        let (bytes, before) = (line, 0);
-        return Ok(Key { bytes, before });
+        return Ok(line.into());
     }
     let before = line.len() - line.trim_ascii_start().len();
-    let bytes = line.trim_ascii();
-    Ok(Key { bytes, before })
-}
-
-impl Key<'_> {
-    pub fn fault(&self, error: &TextError) -> Fault {
-        Fault {
-            column: self.before + error.place() + 1,
-            text: error.to_string(),
-        }
-    }
+    read_bytes(line.trim_ascii(), as_written).map_err(|error| Fault {
+        column: before + error.place() + 1,
+        text: error.to_string(),
+    })
 }
 
 impl Fault {

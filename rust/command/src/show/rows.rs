@@ -1,5 +1,7 @@
 //! Answers as rows, for programs.
 use super::answer::Answer;
+use crate::refused::digits;
+use joistdenim::Key;
 
 pub const HEADER: &str = "key\tslot\tleft\tright\tshared\tedge\trenamed\trefusal\n";
 
@@ -8,6 +10,10 @@ pub const UNREAD: &str = "\t\t\t\t\t\t\t?\n";
 
 /// The refusal is 0 where there is none; what isn't known is left empty.
 pub fn row(answer: &Answer) -> String {
+    let key = match &answer.asked[..] {
+        [] => Key::EMPTY.to_string(),
+        bytes => digits(bytes),
+    };
     let slot = match &answer.slot {
         Some(slot) => format!(
             "{}\t{}\t{}\t{}\t{}",
@@ -17,7 +23,7 @@ pub fn row(answer: &Answer) -> String {
     };
     let renamed = match &answer.renamed {
         Ok((renamed, _)) => format!("{renamed}\t0"),
-        Err((refusal, _)) => format!("\t{}", refusal.number()),
+        Err(refused) => format!("\t{}", refused.refusal.number()),
     };
-    format!("{}\t{slot}\t{renamed}\n", answer.asked)
+    format!("{key}\t{slot}\t{renamed}\n")
 }

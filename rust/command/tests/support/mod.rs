@@ -81,6 +81,17 @@ impl Ran {
     }
 }
 
+/// Long texts that must be the same: where they aren't, the first lines that differ.
+#[track_caller]
+pub fn same(got: &str, wanted: &str) {
+    let lines = got.lines().zip(wanted.lines());
+    for (number, (got, wanted)) in lines.enumerate() {
+        assert_eq!(got, wanted, "line {}", number + 1);
+    }
+    assert_eq!(got.lines().count(), wanted.lines().count());
+    assert_eq!(got.len(), wanted.len());
+}
+
 /// The table of a text, as the command makes it.
 #[track_caller]
 pub fn table(text: &str) -> Vec<u8> {
@@ -158,4 +169,30 @@ pub fn shell(line: &str, folder: &Path) -> Output {
     bash.args(["-c", line]).current_dir(folder);
     bash.env("PATH", path).env_remove("NO_COLOR");
     bash.output().expect("bash runs")
+}
+
+/// A folder with T as t.table, and 64 pivots as large.table, which has more than a thousand bytes.
+pub fn folder() -> Folder {
+    let folder = Folder::new();
+    folder.with("t.table", table(SHORT_T));
+    let lines: String = (0..63).map(|i| format!("41{i:02x} -\n")).collect();
+    folder.with("large.table", table(&format!("{lines}42\n")));
+    folder
+}
+
+pub fn errors(output: &Output) -> String {
+    String::from_utf8(output.stderr.clone()).expect("messages are text")
+}
+
+/// This status and line on standard error, and nothing on standard output.
+#[track_caller]
+pub fn failed(output: &Output, status: i32, line: &str) {
+    assert_eq!(output.status.code(), Some(status));
+    assert_eq!(errors(output), format!("{line}\n"));
+    assert_eq!(output.stdout, b"");
+}
+
+#[track_caller]
+pub fn quiet(output: &Output) {
+    assert_eq!((output.status.code(), errors(output)), (Some(0), "".into()));
 }

@@ -33,6 +33,7 @@ pub enum Fault {
     ThirdField,
     /// This is another slot.
     Slot(usize),
+    MaxLeft,
     /// The next slot begins here.
     Right(Key),
     /// The keys of the slot share this.
@@ -74,6 +75,7 @@ impl ListError {
             }
             Fault::ThirdField => "a line has a left bound and an edge, or the end alone".into(),
             Fault::Slot(number) => format!("this is slot {number}"),
+            Fault::MaxLeft => "max can only be the end of the table".into(),
             Fault::Right(left) => {
                 format!("the next slot begins with {left}, so this one ends there")
             }
@@ -85,7 +87,7 @@ impl ListError {
                 "the last line is missing, with the end of the table: a key or max".into()
             }
             Fault::Entry(count) => {
-                format!("a line of a bucket has a key and a number, and this has {count} fields")
+                format!("a line of a bucket has 2 fields, a key and a number, and this has {count}")
             }
             Fault::Number => format!("a number goes from 0 to {}", u32::MAX),
         }

@@ -34,7 +34,7 @@ fn fields(text: &str, line: usize) -> Vec<Field<'_>> {
     let text = text.split('#').next().unwrap_or_default();
     let mut column = 1;
     let mut fields = vec![];
-    for text in text.split(char::is_whitespace) {
+    for text in text.split([' ', '\t']) {
         let place = Place { line, column };
         fields.push(Field { text, place });
         column += text.chars().count() + 1;

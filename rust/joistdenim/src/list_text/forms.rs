@@ -4,7 +4,8 @@ use crate::element::Element;
 use crate::key::Key;
 use crate::lines::{Fault, Field, ListError, Place, Rows};
 use crate::refusal::Refusal;
-use crate::table::{records_of, Table};
+use crate::table::{records_of, RecordPlace, Table};
+use crate::text::MAX;
 use crate::MAX_PIVOTS;
 
 const FULL: [&str; 5] = ["slot", "left", "right", "shared", "edge"];
@@ -34,13 +35,20 @@ pub fn read(rows: &Rows) -> Result<Read, ListError> {
     let Some((first, rest)) = rows.rows.split_first() else {
         return read.short(&rows.rows);
     };
-    let texts: Vec<&str> = first.iter().map(|field| field.text).collect();
-    match &texts[..] {
-        [REFUSED, ..] => Err(first[0].fault(Fault::NoList)),
+    let names = first.iter().map(|field| field.text.to_ascii_lowercase());
+    match &names.collect::<Vec<String>>()[..] {
+        [refused, ..] if refused == REFUSED => Err(first[0].fault(Fault::NoList)),
         names if *names == FULL => read.full(rest),
         names if *names == SHORT => read.short(rest),
         [_, _, _, _, _] => read.full(&rows.rows),
         _ => read.short(&rows.rows),
+    }
+}
+
+fn left_key(left: &Field) -> Result<Key, ListError> {
+    match left.text {
+        MAX => Err(left.fault(Fault::MaxLeft)),
+        _ => left.read(),
     }
 }
 
@@ -65,7 +73,7 @@ impl Read {
 
     /// Whether the right bound before, if any, is the left one of this slot; it is dropped.
     fn meets(&mut self, left: &Field) -> Result<(), ListError> {
-        let key: Key = left.read()?;
+        let key = left_key(left)?;
         match (self.pivots.pop(), self.pivots_at.pop()) {
             (Some(right), Some(place)) if right != Element::Key(key) => {
                 let fault = Fault::Right(key);
@@ -96,7 +104,7 @@ impl Read {
     }
 
     fn push_slot(&mut self, left: &Field, edge: &Field) -> Result<(), ListError> {
-        self.push_pivot(Element::Key(left.read()?), left);
+        self.push_pivot(Element::Key(left_key(left)?), left);
         self.edges.push(edge.read()?);
         self.edges_at.push(edge.place);
         Ok(())
@@ -111,11 +119,10 @@ impl Read {
     /// at the first pivot too many, or at the end where there are too few.
     pub fn refused(&self, refusal: Refusal) -> ListError {
         let (pivots, edges) = records_of(&self.pivots, &self.edges);
-        let slot = Table::refused_slot(&pivots, &edges);
-        let place = match (refusal, slot) {
-            (Refusal::EmptyPrefix, Some(slot)) => self.edges_at.get(slot),
-            (_, Some(slot)) => self.pivots_at.get(slot + 1),
-            (_, None) => self.pivots_at.get(MAX_PIVOTS),
+        let place = match Table::refused_record(&pivots, &edges) {
+            Some(RecordPlace::Pivot(place)) => self.pivots_at.get(place),
+            Some(RecordPlace::Edge(slot)) => self.edges_at.get(slot),
+            None => self.pivots_at.get(MAX_PIVOTS),
         };
         let meaning = match refusal {
             Refusal::Shape => "a table has 2 to 64 pivots",

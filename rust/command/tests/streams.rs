@@ -1,0 +1,95 @@
+//! Streams, by the program itself: a standard output that is full or can't be written to, closed
+//! pipes, and terminals.
+mod support;
+
+use std::fs;
+use support::{failed, folder, quiet, shell, Folder};
+
+#[test]
+fn a_full_standard_output_is_told() {
+    let folder = folder();
+    let line = "joistdenim: standard output: No space left on device (os error 28)";
+    for arguments in [
+        "list t.table",
+        "cut left t.table 4131",
+        "show t.table 4131",
+        "show --tsv t.table 4131",
+        "check t.table",
+        "--help",
+        "--version",
+        "--man",
+    ] {
+        let written = shell(&format!("joistdenim {arguments} >/dev/full"), folder.path());
+        failed(&written, 2, line);
+    }
+}
+
+#[test]
+fn standard_output_that_cant_be_written_is_told() {
+    let written = shell("joistdenim list t.table 1</dev/null", folder().path());
+    failed(
+        &written,
+        2,
+        "joistdenim: standard output: Bad file descriptor (os error 9)",
+    );
+}
+
+#[test]
+fn a_closed_pipe_ends_it_quietly() {
+    let folder = folder();
+    for arguments in [
+        "list t.table",
+        "cut left t.table 4131",
+        "show t.table 4131",
+        "--man",
+    ] {
+        let line = format!("(sleep 0.2; joistdenim {arguments}; echo $? >status) | true");
+        quiet(&shell(&line, folder.path()));
+        assert_eq!(fs::read(folder.at("status")).expect("a status"), b"0\n");
+    }
+    let endless = "(yes 4131 | joistdenim show t.table -; echo $? >status) | head -n 1";
+    let first = shell(endless, folder.path());
+    quiet(&first);
+    assert_eq!(first.stdout, b"key      4131\n");
+    assert_eq!(fs::read(folder.at("status")).expect("a status"), b"0\n");
+}
+
+/// A line as a terminal shows it; its lines end with CR LF there.
+fn on_terminal(line: &str, folder: &Folder) -> String {
+    let run = format!("script -qec '{line}' /dev/null </dev/null");
+    let shown = shell(&run, folder.path()).stdout;
+    String::from_utf8(shown)
+        .expect("text")
+        .replace("\r\n", "\n")
+}
+
+#[test]
+fn a_terminal_has_colour_and_no_bytes() {
+    let folder = folder();
+    let show = "joistdenim show t.table 413107";
+    let coloured = |shown: &str| shown.contains("\x1b[31m41\x1b[0m3107\n");
+    let marked = |shown: &str| shown.contains("413107\n         ^^ replaced\n");
+    assert!(coloured(&on_terminal(
+        &format!("TERM=xterm {show}"),
+        &folder
+    )));
+    assert!(coloured(&on_terminal(
+        &format!("NO_COLOR= TERM=xterm {show}"),
+        &folder
+    )));
+    assert!(marked(&on_terminal(
+        &format!("NO_COLOR=1 TERM=xterm {show}"),
+        &folder
+    )));
+    assert!(marked(&on_terminal(&format!("TERM=dumb {show}"), &folder)));
+    assert!(marked(&on_terminal(
+        &format!("unset TERM; {show}"),
+        &folder
+    )));
+    let piped = shell(&format!("TERM=xterm {show}"), folder.path());
+    assert!(marked(&String::from_utf8(piped.stdout).expect("text")));
+    let bytes = on_terminal("joistdenim cut left t.table 4131; echo $?", &folder);
+    let line = "joistdenim: the result is bytes and not for a terminal: give -o FILE; \
+                'joistdenim cut --help' tells more\n2\n";
+    assert_eq!(bytes, line);
+}
