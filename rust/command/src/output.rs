@@ -4,7 +4,7 @@ use crate::failure::{Done, Failure};
 use crate::files::name_of;
 use crate::Streams;
 use std::ffi::OsStr;
-use std::fs::{self, File, OpenOptions, Permissions};
+use std::fs::{self, File, Permissions};
 use std::io::{self, ErrorKind, Write};
 use std::os::unix::fs::{fchown, MetadataExt, PermissionsExt};
 use std::path::{Path, PathBuf};
@@ -42,14 +42,26 @@ pub fn bytes(bytes: &[u8], arguments: &Arguments, streams: &mut Streams) -> Done
 fn replace(path: &OsStr, bytes: &[u8]) -> Done {
     let failed = |error: io::Error| Failure::File(format!("{}: {error}", name_of(path)));
     let place = place_of(Path::new(path)).map_err(failed)?;
-    let new = place.with_file_name(format!(".joistdenim.{}.new", std::process::id()));
-    let written = write_new(&new, &place, bytes).and_then(|()| fs::rename(&new, &place));
+    let (new, file) = create_beside(&place).map_err(failed)?;
+    let written = fill(file, &place, bytes).and_then(|()| fs::rename(&new, &place));
     written.map_err(|error| {
-        // It may not be there.
         let _ = fs::remove_file(&new);
         failed(error)
     })?;
     Ok(0)
+}
+
+/// A file of our own, under a name that nothing has.
+fn create_beside(place: &Path) -> io::Result<(PathBuf, File)> {
+    let mut number = 0;
+    loop {
+        let name = format!(".joistdenim.{}.{number}", std::process::id());
+        let new = place.with_file_name(name);
+        match File::create_new(&new) {
+            Err(error) if error.kind() == ErrorKind::AlreadyExists => number += 1,
+            file => return Ok((new, file?)),
+        }
+    }
 }
 
 /// Where the file itself is, or shall be: a link stays a link. What the system has in these folders
@@ -69,8 +81,7 @@ fn place_of(path: &Path) -> io::Result<PathBuf> {
     }
 }
 
-fn write_new(new: &Path, old: &Path, bytes: &[u8]) -> io::Result<()> {
-    let mut file: File = OpenOptions::new().write(true).create_new(true).open(new)?;
+fn fill(mut file: File, old: &Path, bytes: &[u8]) -> io::Result<()> {
     if let Ok(old) = fs::metadata(old) {
         // Another's file stays theirs where that is allowed.
         let _ = fchown(&file, Some(old.uid()), Some(old.gid()));
