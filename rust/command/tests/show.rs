@@ -3,6 +3,9 @@ mod support;
 
 use std::io::{BufRead, BufReader, Write};
 use std::process::Stdio;
+use std::sync::mpsc::{channel, RecvTimeoutError};
+use std::thread;
+use std::time::Duration;
 use support::{program, ran, ran_in, ran_words, table, Folder, Ran, SHORT_T};
 
 const BLOCK: &str = "key      413107
@@ -231,18 +234,18 @@ fn a_line_is_answered_before_the_next_is_read() {
         .stderr(Stdio::null());
     let mut show = show.spawn().expect("the command runs");
     let mut keys = show.stdin.take().expect("standard input");
-    let mut rows = BufReader::new(show.stdout.take().expect("standard output"));
-    let mut next = || {
-        let mut row = String::new();
-        rows.read_line(&mut row).expect("a row");
-        row
-    };
-    assert_eq!(next(), HEADER);
+    let rows = BufReader::new(show.stdout.take().expect("standard output"));
+    let (sender, receiver) = channel();
+    thread::spawn(move || rows.lines().for_each(|row| drop(sender.send(row))));
+    let next = || receiver.recv_timeout(Duration::from_secs(20));
+    let next = || next().map(|row| row.expect("a row"));
+    assert_eq!(next(), Ok(HEADER.trim_end().into()));
     for (key, refusal) in [("413107", 0), ("42", 5), ("4135", 0), ("", 5)] {
         writeln!(keys, "{key}").expect("a key is taken");
-        assert!(next().ends_with(&format!("\t{refusal}\n")), "{key}");
+        let row = next().expect("an answer comes");
+        assert!(row.ends_with(&format!("\t{refusal}")), "{key}");
     }
     drop(keys);
-    assert_eq!(next(), "");
+    assert_eq!(next(), Err(RecvTimeoutError::Disconnected));
     assert_eq!(show.wait().expect("it ends").code(), Some(1));
 }
