@@ -4,13 +4,16 @@ mod calls;
 mod dests;
 mod faults;
 mod laws;
-mod random;
-mod small;
+pub mod random;
+pub mod small;
 mod wrapper;
 
 use crate::group::{test, Group, Test};
 use crate::lengths;
 use calls::{TRANSLATE_BUCKET, TRANSLATE_BUCKET_WILL_FIT};
+
+/// A bucket, a prefix and a new prefix.
+pub type Slices<'a> = [&'a [u8]; 3];
 
 pub fn tests() -> Vec<Test> {
     let mut tests = vec![

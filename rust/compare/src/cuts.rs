@@ -3,7 +3,7 @@
 mod by_hand;
 pub mod calls;
 pub mod inputs;
-mod random;
+pub mod random;
 pub mod records;
 pub mod small;
 mod two_orders;

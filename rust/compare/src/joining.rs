@@ -3,7 +3,7 @@ mod by_hand;
 mod calls;
 mod faults;
 mod laws;
-mod random;
+pub mod random;
 mod small;
 mod wrapper;
 

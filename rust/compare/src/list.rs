@@ -1,10 +1,10 @@
 //! Groups for the list of a table.
-mod by_hand;
-mod calls;
-mod dests;
-mod laws;
-mod random;
-mod small;
+pub mod by_hand;
+pub mod calls;
+pub mod dests;
+pub mod laws;
+pub mod random;
+pub mod small;
 mod wrapper;
 
 use crate::group::{test, Test};

@@ -6,6 +6,7 @@ mod bucket_inputs;
 mod buckets;
 mod call;
 mod changes;
+mod command;
 mod cuts;
 mod dests;
 mod group;
@@ -107,6 +108,7 @@ fn main() -> ExitCode {
         buckets::tests(),
         index::tests(),
         list::tests(),
+        command::tests(),
     ];
     for test in tests.into_iter().flatten() {
         let mut group = Group::default();

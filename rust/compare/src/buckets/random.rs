@@ -2,6 +2,7 @@
 //! most keys begin with the prefix or nearly, and new prefixes are nearly too long.
 use super::calls::TRANSLATE_BUCKET;
 use super::dests::around;
+use super::Slices;
 use crate::bucket_inputs::{bucket_of, spoil};
 use crate::group::Group;
 use crate::inputs::{near, new_prefix, random_bytes, Xorshift, MAX_ENTRIES};
@@ -66,9 +67,9 @@ impl Renaming {
 }
 
 /// Whole, and then with one to three faults in the bucket; one prefix in eight is too long.
-fn whole_and_spoiled(group: &mut Group, random: &mut Xorshift, mut renaming: Renaming) {
+fn whole_and_spoiled(random: &mut Xorshift, mut renaming: Renaming, mut body: impl FnMut(Slices)) {
     let mut bucket = renaming.bucket();
-    around(group, [&bucket, &renaming.prefix, &renaming.new_prefix]);
+    body([&bucket, &renaming.prefix, &renaming.new_prefix]);
     for _ in 0..=random.below(3) {
         spoil(random, &mut bucket);
     }
@@ -77,33 +78,38 @@ fn whole_and_spoiled(group: &mut Group, random: &mut Xorshift, mut renaming: Ren
         1 => renaming.new_prefix.resize(65, 0),
         _ => {}
     }
-    around(group, [&bucket, &renaming.prefix, &renaming.new_prefix]);
+    body([&bucket, &renaming.prefix, &renaming.new_prefix]);
 }
 
 pub fn small(group: &mut Group, count: usize) {
-    let mut random = Xorshift::new(SEED);
-    for _ in 0..count {
-        let renaming = renaming(&mut random, 6);
-        whole_and_spoiled(group, &mut random, renaming);
-    }
+    each(count, 6, |slices| around(group, slices));
 }
 
 pub fn large(group: &mut Group, count: usize) {
+    each(count, MAX_ENTRIES, |slices| around(group, slices));
+}
+
+pub fn any(group: &mut Group, count: usize) {
+    each_of_any(count, |slices| around(group, slices));
+}
+
+/// Each bucket has up to this many entries.
+pub fn each(count: usize, entries: usize, mut body: impl FnMut(Slices)) {
     let mut random = Xorshift::new(SEED);
     for _ in 0..count {
-        let renaming = renaming(&mut random, MAX_ENTRIES);
-        whole_and_spoiled(group, &mut random, renaming);
+        let renaming = renaming(&mut random, entries);
+        whole_and_spoiled(&mut random, renaming, &mut body);
     }
 }
 
 /// Buckets and prefixes from one random key, as for the other calls.
-pub fn any(group: &mut Group, count: usize) {
+pub fn each_of_any(count: usize, mut body: impl FnMut(Slices)) {
     let mut random = Xorshift::new(SEED);
     for _ in 0..count {
         let slices = crate::random::slices(&mut random, &TRANSLATE_BUCKET);
         let [bucket, prefix, new_prefix] = &slices[..] else {
             unreachable!("a slice for each argument")
         };
-        around(group, [bucket, prefix, new_prefix]);
+        body([bucket, prefix, new_prefix]);
     }
 }

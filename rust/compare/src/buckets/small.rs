@@ -1,6 +1,7 @@
 //! All small buckets with all small prefixes; wrong records in every place of them; and prefixes
 //! and keys of every length.
 use super::dests::{around, both};
+use super::Slices;
 use crate::bucket_inputs::{bucket, bucket_of, wrong_records};
 use crate::group::Group;
 use crate::inputs::{counted, record, small_keys, Record, ENTRY_SIZE};
@@ -33,13 +34,21 @@ fn each_bucket(records: &[Record], mut body: impl FnMut(&[u8])) {
     }
 }
 
-/// Each small bucket with every prefix of up to two bytes.
 pub fn buckets(group: &mut Group) {
+    each_good(|slices| around(group, slices));
+}
+
+pub fn wrong(group: &mut Group) {
+    each_wrong(|slices| around(group, slices));
+}
+
+/// Each small bucket with every prefix of up to two bytes.
+pub fn each_good(mut body: impl FnMut(Slices)) {
     let prefixes = small_keys(2);
     each_bucket(&KEYS.map(record), |bucket| {
         for prefix in &prefixes {
             for new in NEW {
-                around(group, [bucket, prefix, new]);
+                body([bucket, prefix, new]);
             }
         }
     });
@@ -47,13 +56,13 @@ pub fn buckets(group: &mut Group) {
 
 /// Each small bucket of good and wrong records, with prefixes that are good and too long: every
 /// order of causes over the entries.
-pub fn wrong(group: &mut Group) {
+pub fn each_wrong(mut body: impl FnMut(Slices)) {
     let good = [record(&[0x41]), record(&[0x41, 0x30])];
     let records = [&good[..], &wrong_records()].concat();
     each_bucket(&records, |bucket| {
         for prefix in [&[][..], &[0x41], &[0x42], &[0x41; 65]] {
             for new in [&[0x43][..], &[0x43; 63], &[0x43; 64], &[0x43; 65]] {
-                around(group, [bucket, prefix, new]);
+                body([bucket, prefix, new]);
             }
         }
     });

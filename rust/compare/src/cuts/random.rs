@@ -9,18 +9,29 @@ use crate::inputs::Xorshift;
 const SEED: u64 = 20_260_627;
 const KEYS: usize = 4;
 
+/// Pivots, edges and a key.
+type Slices<'a> = [&'a [u8]; 3];
+
 pub fn good(group: &mut Group, call: &Call, count: usize) {
+    each_good(count, |slices| around(group, call, &slices));
+}
+
+pub fn spoiled(group: &mut Group, call: &Call, count: usize) {
+    each_spoiled(count, |slices| around(group, call, &slices));
+}
+
+pub fn each_good(count: usize, mut body: impl FnMut(Slices)) {
     let mut random = Xorshift::new(SEED);
     for _ in 0..count {
         let table = good_table(&mut random);
         for _ in 0..KEYS {
             let key = key_near(&mut random, &table);
-            around(group, call, &[&table.pivots, &table.edges, &key]);
+            body([&table.pivots, &table.edges, &key]);
         }
     }
 }
 
-pub fn spoiled(group: &mut Group, call: &Call, count: usize) {
+pub fn each_spoiled(count: usize, mut body: impl FnMut(Slices)) {
     let mut random = Xorshift::new(SEED);
     for _ in 0..count {
         let table = good_table(&mut random);
@@ -34,6 +45,6 @@ pub fn spoiled(group: &mut Group, call: &Call, count: usize) {
                 _ => {}
             }
         }
-        around(group, call, &[&pivots, &edges, &key]);
+        body([&pivots, &edges, &key]);
     }
 }

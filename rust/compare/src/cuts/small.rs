@@ -71,41 +71,48 @@ pub fn each_edges(table: &mut Table, edges: &[&[u8]], mut body: impl FnMut(&Tabl
     }
 }
 
-/// All small tables that are well formed, with edges at the limit or none, and each small key with
-/// all of them.
-pub fn each_good(mut body: impl FnMut(&Table, &[u8], &[Vec<u8>])) {
-    let edges: [&[u8]; 2] = [&[0x44; 63], &[0x45; 64]];
+/// All small tables with every choice of these edges, and all small keys with each. Where the range
+/// has no prefix, an edge is refused with 4.
+pub fn each_table(edges: &[&[u8]], mut body: impl FnMut(&Table, &[Vec<u8>])) {
     for shared in SHARED {
         let keys = keys_after(shared);
         for mut table in tables(shared) {
-            each_edges(&mut table, &edges, |table| {
-                if joistdenim::wf_edges(&table.pivots, &table.edges).is_ok() {
-                    for key in &keys {
-                        body(table, key, &keys);
-                    }
-                }
-            });
+            each_edges(&mut table, edges, |table| body(table, &keys));
         }
     }
 }
 
-/// Every small key in every small table with every choice of edges: some are refused with 4, and
-/// 63 and 64 bytes are where a byte more is taken and refused.
-pub fn all_keys(group: &mut Group, call: &Call) {
-    let edges: [&[u8]; 4] = [&[], &[0x43], &[0x44; 63], &[0x45; 64]];
-    for shared in SHARED {
-        let keys = keys_after(shared);
-        for mut table in tables(shared) {
-            each_edges(&mut table, &edges, |table| {
-                for key in &keys {
-                    let slices: [&[u8]; 3] = [&table.pivots, &table.edges, key];
-                    // An insertion writes a record more than the table has.
-                    let room = [table.pivots.len() + 67, table.edges.len() + 67];
-                    group.case(call, &Asked::with_dests(&slices, room));
-                }
-            });
+/// All small tables that are well formed, with edges at the limit or none.
+pub fn each_good_table(mut body: impl FnMut(&Table, &[Vec<u8>])) {
+    each_table(&[&[0x44; 63], &[0x45; 64]], |table, keys| {
+        if joistdenim::wf_edges(&table.pivots, &table.edges).is_ok() {
+            body(table, keys);
         }
-    }
+    });
+}
+
+/// The same, and each small key with all of them.
+pub fn each_good(mut body: impl FnMut(&Table, &[u8], &[Vec<u8>])) {
+    each_good_table(|table, keys| {
+        for key in keys {
+            body(table, key, keys);
+        }
+    });
+}
+
+/// Edges of every sort: 63 and 64 bytes are where a byte more is taken and refused.
+pub const EDGES: [&[u8]; 4] = [&[], &[0x43], &[0x44; 63], &[0x45; 64]];
+
+/// Every small key in every small table with every choice of edges.
+pub fn all_keys(group: &mut Group, call: &Call) {
+    each_table(&EDGES, |table, keys| {
+        for key in keys {
+            let slices: [&[u8]; 3] = [&table.pivots, &table.edges, key];
+            // An insertion writes a record more than the table has.
+            let room = [table.pivots.len() + 67, table.edges.len() + 67];
+            group.case(call, &Asked::with_dests(&slices, room));
+        }
+    });
 }
 
 /// The same with edges of 64 bytes or none, all slots with a prefix, and destinations around

@@ -37,33 +37,46 @@ fn halves(random: &mut Xorshift, table: &Table) -> Option<[Records; 2]> {
 }
 
 pub fn good(group: &mut Group, count: usize) {
+    each_good(count, |halves| around(group, &JOIN, &slices(halves)));
+}
+
+pub fn around_most(group: &mut Group, count: usize) {
+    let sorts = each_around_most(count, |halves| around(group, &JOIN, &slices(halves)));
+    group.sorts(&sorts);
+}
+
+pub fn spoiled(group: &mut Group, count: usize) {
+    each_spoiled(count, |halves| around(group, &JOIN, &slices(halves)));
+}
+
+pub fn each_good(count: usize, mut body: impl FnMut([&Records; 2])) {
     let mut random = Xorshift::new(SEED);
     for _ in 0..count {
         let table = good_table(&mut random);
         for _ in 0..4 {
-            if let Some([first, second]) = halves(&mut random, &table) {
-                around(group, &JOIN, &slices([&first, &second]));
+            if let Some(halves) = halves(&mut random, &table) {
+                body(halves.each_ref());
             }
         }
     }
 }
 
-/// The same of 62 to 67 pivots.
-pub fn around_most(group: &mut Group, count: usize) {
+/// The same of 62 to 67 pivots; and how many tables had more than 64, and how many hadn't.
+pub fn each_around_most(count: usize, mut body: impl FnMut([&Records; 2])) -> [usize; 2] {
     let mut random = Xorshift::new(SEED);
     let mut sorts = [0; 2];
     for _ in 0..count {
         let pivots = 62 + random.below(6);
         let table = good_table_of(&mut random, pivots);
         sorts[usize::from(table.slots() < MAX_PIVOTS)] += 1;
-        if let Some([first, second]) = halves(&mut random, &table) {
-            around(group, &JOIN, &slices([&first, &second]));
+        if let Some(halves) = halves(&mut random, &table) {
+            body(halves.each_ref());
         }
     }
-    group.sorts(&sorts);
+    sorts
 }
 
-pub fn spoiled(group: &mut Group, count: usize) {
+pub fn each_spoiled(count: usize, mut body: impl FnMut([&Records; 2])) {
     let mut random = Xorshift::new(SEED);
     for _ in 0..count {
         let table = good_table(&mut random);
@@ -81,6 +94,6 @@ pub fn spoiled(group: &mut Group, count: usize) {
                 spoil(&mut random, slice);
             }
         }
-        around(group, &JOIN, &slices([&first, &second]));
+        body([&first, &second]);
     }
 }

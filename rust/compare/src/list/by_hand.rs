@@ -24,8 +24,32 @@ fn listed(group: &mut Group, input: &[u8], text: &str) {
     }
 }
 
-/// T; ε and max; and empty edges beside missing ones, beside ε, and beside the byte of a dot.
 pub fn small_tables(group: &mut Group) {
+    each_small_table(|input, text| listed(group, input, text));
+}
+
+pub fn refused(group: &mut Group) {
+    each_refused(|input, text| listed(group, input, text));
+}
+
+pub fn longest(group: &mut Group) {
+    let (input, text) = longest_text();
+    group.check(text.len() + 7 == ROOM, || {
+        format!("the text has {} bytes", text.len())
+    });
+    listed(group, &input, &text);
+}
+
+/// Each input with its text.
+pub fn each(mut body: impl FnMut(&[u8], &str)) {
+    each_small_table(&mut body);
+    each_refused(&mut body);
+    let (input, text) = longest_text();
+    body(&input, &text);
+}
+
+/// T; ε and max; and empty edges beside missing ones, beside ε, and beside the byte of a dot.
+fn each_small_table(mut body: impl FnMut(&[u8], &str)) {
     let [empty, dot, no_edge, max] = [
         record(&[]),
         record(b"."),
@@ -33,7 +57,7 @@ pub fn small_tables(group: &mut Group) {
         field_record(MAX),
     ];
     let mut listed = |pivots: &[u8], edges: &[u8], lines: &str| {
-        listed(group, &joined(pivots, edges), &format!("{HEADER}{lines}"));
+        body(&joined(pivots, edges), &format!("{HEADER}{lines}"));
     };
     let t = pivots_of_t();
     for (edges, first, second) in [
@@ -55,10 +79,10 @@ pub fn small_tables(group: &mut Group) {
     listed(&stripped, &edges, lines);
 }
 
-pub fn refused(group: &mut Group) {
+fn each_refused(mut body: impl FnMut(&[u8], &str)) {
     let (pivots, edges, t) = (pivots_of_t(), edges_of_t(), input_of_t());
     let mut refused = |number: u32, input: &[u8]| {
-        listed(group, input, &format!("refused\t{number}\n"));
+        body(input, &format!("refused\t{number}\n"));
     };
     refused(1, &[]);
     refused(1, &[0]);
@@ -84,7 +108,7 @@ pub fn refused(group: &mut Group) {
 }
 
 /// 64 neighbours of 64 bytes, each the prefix of its slot, and edges of 64 bytes.
-pub fn longest(group: &mut Group) {
+fn longest_text() -> (Vec<u8>, String) {
     let head = [0x41; 63];
     let keys: Vec<Vec<u8>> = (0..64).map(|i| [&head[..], &[i]].concat()).collect();
     let keys: Vec<&[u8]> = keys.iter().map(|key| &key[..]).collect();
@@ -98,8 +122,5 @@ pub fn longest(group: &mut Group) {
         );
         text += &format!("{slot}\t{left}\t{right}\t{left}\t{edge}\n");
     }
-    group.check(text.len() + 7 == ROOM, || {
-        format!("the text has {} bytes", text.len())
-    });
-    listed(group, &input, &text);
+    (input, text)
 }

@@ -90,17 +90,16 @@ fn near_table(random: &mut Xorshift, table: &Table) -> Vec<Vec<u8>> {
     ]
 }
 
-/// All small tables with each sort of edge in each slot, and so many random ones with what is near
-/// them.
-pub fn one_table_each(group: &mut Group, count: usize) {
-    let mut texts = Texts::default();
+/// The usual inputs, all small tables with each sort of edge in each slot, and so many random ones
+/// with what is near them.
+pub fn each_input(count: usize, mut body: impl FnMut(&[u8])) {
     for input in usual_inputs() {
-        texts.list(group, &input);
+        body(&input);
     }
     for shared in SHARED {
         for mut table in tables_of(&PIVOTS.map(|key| [shared, key].concat())) {
             each_edges(&mut table, &EDGES, |table| {
-                texts.list(group, &joined(&table.pivots, &table.edges));
+                body(&joined(&table.pivots, &table.edges));
             });
         }
     }
@@ -108,8 +107,13 @@ pub fn one_table_each(group: &mut Group, count: usize) {
     for _ in 0..count {
         let table = good_table(&mut random);
         for input in near_table(&mut random, &table) {
-            texts.list(group, &input);
+            body(&input);
         }
     }
+}
+
+pub fn one_table_each(group: &mut Group, count: usize) {
+    let mut texts = Texts::default();
+    each_input(count, |input| texts.list(group, input));
     group.sorts(&texts.seen);
 }

@@ -9,10 +9,18 @@ use crate::list_inputs::joined;
 const SEED: u64 = 20_290_627;
 
 pub fn good(group: &mut Group, count: usize) {
+    each_good(count, |input| around(group, input));
+}
+
+pub fn spoiled(group: &mut Group, count: usize) {
+    each_spoiled(count, |input| around(group, input));
+}
+
+pub fn each_good(count: usize, mut body: impl FnMut(&[u8])) {
     let mut random = Xorshift::new(SEED);
     for _ in 0..count {
         let table = good_table(&mut random);
-        around(group, &joined(&table.pivots, &table.edges));
+        body(&joined(&table.pivots, &table.edges));
     }
 }
 
@@ -39,9 +47,9 @@ fn spoiled_input(random: &mut Xorshift) -> Vec<u8> {
     input
 }
 
-pub fn spoiled(group: &mut Group, count: usize) {
+pub fn each_spoiled(count: usize, mut body: impl FnMut(&[u8])) {
     let mut random = Xorshift::new(SEED);
     for _ in 0..count {
-        around(group, &spoiled_input(&mut random));
+        body(&spoiled_input(&mut random));
     }
 }

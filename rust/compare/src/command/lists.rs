@@ -1,0 +1,131 @@
+//! `list` and `table`: the list of a table is the reference's, and the table of a list has the
+//! bytes that were listed.
+use super::changes::each_changed;
+use super::wanted::{list_text, refusal_in};
+use super::{command, expect, text};
+use crate::cuts::small::each_good_table;
+use crate::group::{test, Group, Test};
+use crate::inputs::Xorshift;
+use crate::list::calls::LIST_TABLE;
+use crate::list::{by_hand, laws, random, small};
+use crate::list_inputs::joined;
+use crate::random::slices;
+use crate::table_inputs::{absent, distinct, rising};
+
+const SEED: u64 = 20_420_627;
+
+/// Hands inputs to a body, one by one.
+type Each = fn(&mut dyn FnMut(&[u8]));
+
+/// Inputs of one sort.
+struct Sort {
+    name: &'static str,
+    /// Whether at least one in twenty is a table, and one in twenty is none.
+    mixed: bool,
+    each: Each,
+}
+
+const SORTS: [Sort; 8] = [
+    sort("usual and near tables", true, |body| {
+        laws::each_input(3_000, body)
+    }),
+    sort("small tables", true, |body| small::each_of_all_edges(body)),
+    sort("every cut and count", false, |body| {
+        small::each_cut_short(body)
+    }),
+    sort("edges at the limit", false, each_at_limit),
+    sort("any tables, random", true, each_of_any),
+    sort("random", false, |body| random::each_good(10_000, body)),
+    sort("random with faults", true, |body| {
+        random::each_spoiled(30_000, body)
+    }),
+    sort("cut, inserted and joined", false, |body| {
+        each_changed(2_000, body)
+    }),
+];
+
+const fn sort(name: &'static str, mixed: bool, each: Each) -> Sort {
+    Sort { name, mixed, each }
+}
+
+pub fn tests() -> Vec<Test> {
+    let mut tests = vec![test("command: list and table by hand", |group| {
+        by_hand::each(|input, text| both_ways(group, input, text));
+    })];
+    for sort in SORTS {
+        let name = format!("command: list and table, {}", sort.name);
+        tests.push(test(name, move |group| each_of(group, &sort)));
+    }
+    tests
+}
+
+/// The inputs of all sorts.
+pub fn each_input(mut body: impl FnMut(&[u8])) {
+    SORTS.iter().for_each(|sort| (sort.each)(&mut body));
+}
+
+/// All small tables with edges at the limit, and the largest ones.
+fn each_at_limit(body: &mut dyn FnMut(&[u8])) {
+    each_good_table(|table, _| body(&joined(&table.pivots, &table.edges)));
+    for edges in [absent(63), distinct(63)] {
+        body(&joined(&rising(64), &edges));
+    }
+}
+
+fn each_of_any(body: &mut dyn FnMut(&[u8])) {
+    let mut random = Xorshift::new(SEED);
+    for _ in 0..60_000 {
+        body(&slices(&mut random, &LIST_TABLE)[0]);
+    }
+}
+
+fn each_of(group: &mut Group, sort: &Sort) {
+    let mut seen = [0; 2];
+    (sort.each)(&mut |input| {
+        let text = list_text(input);
+        both_ways(group, input, &text);
+        seen[usize::from(refusal_in(&text).is_none())] += 1;
+    });
+    if sort.mixed {
+        group.sorts(&seen);
+    }
+}
+
+/// An input and its text, from one to the other.
+fn both_ways(group: &mut Group, input: &[u8], list: &str) {
+    if let Some(number) = refusal_in(list) {
+        expect(group, &["list", "-"], input, &Err(number));
+        return no_list(group, list);
+    }
+    let (listed, table) = (Ok(list.into()), Ok(input.to_vec()));
+    expect(group, &["list", "-"], input, &listed);
+    let made = expect(group, &["table"], list.as_bytes(), &table).output;
+    expect(group, &["list", "-", "-o", "-"], &made, &listed);
+    for names in ["", "left\tedge\n"] {
+        let short = format!("{names}{}", short(list));
+        expect(group, &["table", "-"], short.as_bytes(), &table);
+    }
+}
+
+/// The text of a refusal is no list.
+fn no_list(group: &mut Group, list: &str) {
+    let ran = command(&["table"], list.as_bytes());
+    let unread = ran.errors.starts_with("joistdenim: ") && ran.errors.lines().count() == 1;
+    group.check(ran.status == 2 && ran.output.is_empty() && unread, || {
+        text(&["table"], list.as_bytes(), &ran)
+    });
+}
+
+/// The short form, with spaces, comments and blank lines.
+fn short(list: &str) -> String {
+    let (mut text, mut end) = (String::from("# Left bounds and edges.\n\n"), "");
+    for line in list.lines().skip(1) {
+        let fields: Vec<&str> = line.split('\t').collect();
+        let [slot, left, right, _, edge] = fields[..] else {
+            unreachable!("a line has five fields")
+        };
+        text += &format!("{left}  {edge} # slot {slot}\n");
+        end = right;
+    }
+    format!("{text} \n{end}")
+}
