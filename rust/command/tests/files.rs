@@ -138,6 +138,8 @@ fn files_that_cant_be_read() {
             &line,
         );
     }
+    let escape = shell("joistdenim list $'\\e[31mnone'", folder.path());
+    failed(&escape, 2, &format!("joistdenim: ?[31mnone: {missing}"));
     let directory = "Is a directory (os error 21)";
     failed(
         &shell("joistdenim list .", folder.path()),

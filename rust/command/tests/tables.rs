@@ -59,6 +59,10 @@ fn a_refused_table_has_no_list() {
             format!("1: {name} has 331 bytes, and a table of 3 pivots has 332"),
         ),
         (
+            [&t[..], &[0; 8384 - 332]].concat(),
+            format!("1: {name} has 8384 bytes, and a table of 3 pivots has 332"),
+        ),
+        (
             [&t[..], &[0; 9000]].concat(),
             format!("1: {name} has over 8384 bytes, and a table of 3 pivots has 332"),
         ),
