@@ -11,6 +11,9 @@ use crate::tables::{bounded_key, contains_all_keys, init_pivot_table, route, wf_
 use crate::{MAX_LIST, MAX_PIVOTS, RECORD_SIZE};
 use std::fmt;
 
+/// Why a call that refuses 1 to 4 alone doesn't.
+const WELL_FORMED: &str = "the table was checked when it was made";
+
 /// The bytes of the count that the list program's input begins with.
 const COUNT_SIZE: usize = 2;
 
@@ -117,43 +120,47 @@ impl Table {
 
     pub fn pivots(&self) -> impl ExactSizeIterator<Item = Element> + '_ {
         let pivots = self.pivots.chunks(RECORD_SIZE).map(Element::try_from);
-        pivots.map(|pivot| pivot.expect("a pivot of a well-formed table is an element"))
+        pivots.map(|pivot| pivot.expect(WELL_FORMED))
     }
 
     pub fn edges(&self) -> impl ExactSizeIterator<Item = Edge> + '_ {
         let edges = self.edges.chunks(RECORD_SIZE).map(Edge::try_from);
-        edges.map(|edge| edge.expect("an edge of a well-formed table is one"))
+        edges.map(|edge| edge.expect(WELL_FORMED))
     }
 
     pub fn slots(&self) -> impl ExactSizeIterator<Item = Slot> + '_ {
-        let ends = self.pivots().zip(self.pivots().skip(1)).zip(self.edges());
-        ends.enumerate().map(|(number, ((left, right), edge))| {
-            let left = *left.key().expect("max is the last pivot, if any");
-            let shared = pivot_lcp(left.as_bytes(), right.record()).and_then(Key::try_from);
-            Slot {
+        (0..self.edges.len() / RECORD_SIZE).map(|number| self.slot(number))
+    }
+
+    fn slot(&self, number: usize) -> Slot {
+        let slot = || -> Result<Slot, Refusal> {
+            let left = Key::try_from(pivot_key(record_at(&self.pivots, number))?)?;
+            let right = Element::try_from(record_at(&self.pivots, number + 1))?;
+            Ok(Slot {
                 number,
                 left,
                 right,
-                shared: shared.expect("it is a part of a key"),
-                edge,
-            }
-        })
+                shared: Key::try_from(pivot_lcp(left.as_bytes(), right.record())?)?,
+                edge: Edge::try_from(record_at(&self.edges, number))?,
+            })
+        };
+        slot().expect(WELL_FORMED)
     }
 
     /// Whether the table goes from the empty key to max.
     pub fn contains_all_keys(&self) -> bool {
-        contains_all_keys(&self.pivots).expect("the table is well formed")
+        contains_all_keys(&self.pivots).expect(WELL_FORMED)
     }
 
     /// Whether the key is not below the first pivot and below the last.
     pub fn bounded_key(&self, key: &Key) -> bool {
-        bounded_key(&self.pivots, key.as_bytes()).expect("table and key are well formed")
+        bounded_key(&self.pivots, key.as_bytes()).expect(WELL_FORMED)
     }
 
     /// The slot that the key lies in. Refuses 5.
     pub fn route(&self, key: &Key) -> Result<Slot, Refusal> {
         let number = route(&self.pivots, key.as_bytes())?;
-        Ok(self.slots().nth(number).expect("the route is a slot"))
+        Ok(self.slot(number))
     }
 
     /// The pair of the key's slot, from the shared prefix to the edge. Refuses 5.
@@ -191,6 +198,10 @@ impl Table {
         let (a, b) = (self.records(), second.records());
         written(|pivots, edges| join(a.0, a.1, b.0, b.1, pivots, edges))
     }
+}
+
+fn record_at(records: &[u8], place: usize) -> &[u8] {
+    &records[place * RECORD_SIZE..][..RECORD_SIZE]
 }
 
 fn malformed(pivots: &[u8], edges: &[u8]) -> Option<RecordPlace> {
