@@ -109,43 +109,26 @@ fn the_first_refusal_over_all_arguments() {
     let folder = Folder::new();
     let mut unsorted = table("41 -\n42\n");
     unsorted[4] = 0x43;
+    folder.with("unsorted", unsorted);
     let mut marked = table("41 -\n42\n");
     marked[2..5].copy_from_slice(&[0xFF, 0xFF, 0]);
-    let short = table(SHORT_T)[..331].to_vec();
+    folder.with("marked", marked);
+    folder.with("short", &table(SHORT_T)[..331]);
     let long = "41".repeat(65);
-    let [unsorted, marked, short] = [("unsorted", unsorted), ("marked", marked), ("short", short)]
-        .map(|(name, bytes)| folder.with(name, bytes));
-    let rises = "pivot 1: pivots don't rise strictly";
-    let mark = "pivot 0: a malformed record, or a wrong mark";
-    let key = format!("2: {long} has 65 bytes, and a key has at most 64");
-    for (arguments, line) in [
-        (
-            format!("join {unsorted} {marked}"),
-            format!("2: {marked}, {mark}"),
-        ),
-        (
-            format!("join {marked} {unsorted}"),
-            format!("2: {marked}, {mark}"),
-        ),
-        (
-            format!("join {unsorted} {unsorted}"),
-            format!("3: {unsorted}, {rises}"),
-        ),
-        (
-            format!("cut left {unsorted} 41"),
-            format!("3: {unsorted}, {rises}"),
-        ),
-        (format!("cut left {unsorted} {long}"), key.clone()),
-        (
-            format!("cut right {marked} {long}"),
-            format!("2: {marked}, {mark}"),
-        ),
-        (format!("insert {unsorted} {long}"), key),
-        (
-            format!("insert {short} {long}"),
-            format!("1: {short} has 331 bytes, and a table of 3 pivots has 332"),
-        ),
-    ] {
-        ran(&arguments, "").failed(1, &format!("refused {line}"));
-    }
+    let refused = |arguments: &str, line: &str| {
+        let whole = |text: &str| text.replace("DIR/", &folder.at("")).replace("LONG", &long);
+        ran(&whole(arguments), "").failed(1, &whole(&format!("refused {line}")));
+    };
+    let rises = "3: DIR/unsorted, pivot 1: pivots don't rise strictly";
+    let mark = "2: DIR/marked, pivot 0: a malformed record, or a wrong mark";
+    let key = "2: LONG has 65 bytes, and a key has at most 64";
+    let short = "1: DIR/short has 331 bytes, and a table of 3 pivots has 332";
+    refused("join DIR/unsorted DIR/marked", mark);
+    refused("join DIR/marked DIR/unsorted", mark);
+    refused("join DIR/unsorted DIR/unsorted", rises);
+    refused("cut left DIR/unsorted 41", rises);
+    refused("cut left DIR/unsorted LONG", key);
+    refused("cut right DIR/marked LONG", mark);
+    refused("insert DIR/unsorted LONG", key);
+    refused("insert DIR/short LONG", short);
 }

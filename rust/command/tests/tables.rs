@@ -45,110 +45,114 @@ fn tables_are_read_from_files_too() {
     assert_eq!(ran("list -", table(SHORT_T)).text(), LIST_OF_T);
 }
 
-#[test]
-fn a_refused_table_has_no_list() {
-    let t = table(SHORT_T);
-    let name = "standard input";
-    let mark = "a malformed record, or a wrong mark";
-    let short = format!("1: {name} is too short: the smallest table has 200 bytes");
-    let cases = [
-        (vec![], short.clone()),
-        (vec![0], short),
-        (
-            t[..331].to_vec(),
-            format!("1: {name} has 331 bytes, and a table of 3 pivots has 332"),
-        ),
-        (
-            [&t[..], &[0; 8384 - 332]].concat(),
-            format!("1: {name} has 8384 bytes, and a table of 3 pivots has 332"),
-        ),
-        (
-            [&t[..], &[0; 9000]].concat(),
-            format!("1: {name} has over 8384 bytes, and a table of 3 pivots has 332"),
-        ),
-        (
-            changed(0, &[0, 65]),
-            format!("1: {name} begins with a count of 65, and a table has 2 to 64 pivots"),
-        ),
-        (
-            changed(0, &[0, 1]),
-            format!("1: {name} begins with a count of 1, and a table has 2 to 64 pivots"),
-        ),
-        (
-            SHORT_T.into(),
-            format!("1: {name} is text; 'joistdenim table' makes a table of a list"),
-        ),
-        (changed(68, &[0, 65]), format!("2: {name}, pivot 1: {mark}")),
-        (changed(199, &[1]), format!("2: {name}, pivot 2: {mark}")),
-        (
-            changed(266, &[0xFF, 0xFF]),
-            format!("2: {name}, edge 1: {mark}"),
-        ),
-        (
-            changed(71, b"0"),
-            format!("3: {name}, pivot 1: pivots don't rise strictly"),
-        ),
-        (
-            changed(136, b"A"),
-            format!("3: {name}, pivot 2: pivots don't rise strictly"),
-        ),
-        (
-            changed(4, b"@"),
-            format!("4: {name}, edge 0: an edge where the range's prefix is empty"),
-        ),
-    ];
-    for (input, text) in cases {
-        for arguments in ["list -", "check -", "show - 4131", "cut left - 4131"] {
-            ran(arguments, &input).failed(1, &format!("refused {text}"));
-        }
+/// What is said of standard input where T has these bytes at this place.
+const FAULTS: [(usize, &[u8], &str); 8] = [
+    (
+        0,
+        &[0, 65],
+        "1: T begins with a count of 65, and a table has 2 to 64 pivots",
+    ),
+    (
+        0,
+        &[0, 1],
+        "1: T begins with a count of 1, and a table has 2 to 64 pivots",
+    ),
+    (
+        68,
+        &[0, 65],
+        "2: T, pivot 1: a malformed record, or a wrong mark",
+    ),
+    (
+        199,
+        &[1],
+        "2: T, pivot 2: a malformed record, or a wrong mark",
+    ),
+    (
+        266,
+        &[0xFF; 2],
+        "2: T, edge 1: a malformed record, or a wrong mark",
+    ),
+    (71, b"0", "3: T, pivot 1: pivots don't rise strictly"),
+    (136, b"A", "3: T, pivot 2: pivots don't rise strictly"),
+    (
+        4,
+        b"@",
+        "4: T, edge 0: an edge where the range's prefix is empty",
+    ),
+];
+
+/// Each command that reads a table says this of an input.
+#[track_caller]
+fn refused(input: &[u8], text: &str) {
+    let line = format!("refused {}", text.replacen('T', "standard input", 1));
+    for arguments in ["list -", "check -", "show - 4131", "cut left - 4131"] {
+        ran(arguments, input).failed(1, &line);
     }
 }
 
 #[test]
-fn a_text_at_fault_is_told_with_line_and_column() {
-    let folder = Folder::new();
-    let with = |old: &str, new: &str| LIST_OF_T.replacen(old, new, 1);
-    let cases = [
-        (
-            with("\t41\t43", "\t42\t43"),
-            "line 2, column 13: what the keys of this slot share is 41",
-        ),
-        (
-            with("1\t4135", "2\t4135"),
-            "line 3, column 1: this is slot 1",
-        ),
-        (
-            with("4135\t41", "4134\t41"),
-            "line 2, column 8: the next slot begins with 4135, so this one ends there",
-        ),
-        (
-            with("4130", "41x0"),
-            "line 2, column 5: 'x' is no hexadecimal digit",
-        ),
-        (
-            with("\t-", ""),
-            "line 3, column 1: a line of the list has 5 fields, and this has 4",
-        ),
-        (
-            "4130 43\n".into(),
-            "line 2, column 1: the last line is missing, with the end of the table: a key or max",
-        ),
-        (
-            "refused\t3\n".into(),
-            "line 1, column 1: this says that a table was refused, and is no list",
-        ),
-        (
-            "\u{e9}\n".into(),
-            "line 1, column 1: 'é' is no hexadecimal digit",
-        ),
-    ];
-    for (text, said) in cases {
-        let line = format!("joistdenim: standard input, {said}");
-        ran("table", &text).failed(2, &line);
-        let path = folder.with("t.txt", &text);
-        let line = format!("joistdenim: {path}, {said}");
-        ran(&format!("table {path}"), "").failed(2, &line);
+fn a_refused_table_has_no_list() {
+    for (place, bytes, text) in FAULTS {
+        refused(&changed(place, bytes), text);
     }
+    let t = table(SHORT_T);
+    let size = |length| format!("1: T has {length} bytes, and a table of 3 pivots has 332");
+    refused(&t[..331], &size("331"));
+    refused(&[&t[..], &[0; 8384 - 332]].concat(), &size("8384"));
+    refused(&[&t[..], &[0; 9000]].concat(), &size("over 8384"));
+    let short = "1: T is too short: the smallest table has 200 bytes";
+    refused(&[], short);
+    refused(&[0], short);
+    let text = "1: T is text; 'joistdenim table' makes a table of a list";
+    refused(SHORT_T.as_bytes(), text);
+}
+
+/// What is said of T's list with another text in the place of one.
+const SLIPS: [(&str, &str, &str); 5] = [
+    (
+        "\t41\t43",
+        "\t42\t43",
+        "line 2, column 13: what the keys of this slot share is 41",
+    ),
+    ("1\t4135", "2\t4135", "line 3, column 1: this is slot 1"),
+    (
+        "4135\t41",
+        "4134\t41",
+        "line 2, column 8: the next slot begins with 4135, so this one ends there",
+    ),
+    (
+        "4130",
+        "41x0",
+        "line 2, column 5: 'x' is no hexadecimal digit",
+    ),
+    (
+        "\t-",
+        "",
+        "line 3, column 1: a line of the list has 5 fields, and this has 4",
+    ),
+];
+
+/// From standard input and from a file.
+#[track_caller]
+fn unread(text: &str, said: &str) {
+    let line = format!("joistdenim: standard input, {said}");
+    ran("table", text).failed(2, &line);
+    let folder = Folder::new();
+    let path = folder.with("t.txt", text);
+    let line = format!("joistdenim: {path}, {said}");
+    ran(&format!("table {path}"), "").failed(2, &line);
+}
+
+#[test]
+fn a_text_at_fault_is_told_with_line_and_column() {
+    for (old, new, said) in SLIPS {
+        unread(&LIST_OF_T.replacen(old, new, 1), said);
+    }
+    let end = "line 2, column 1: the last line is missing, with the end of the table: a key or max";
+    unread("4130 43\n", end);
+    let refused = "line 1, column 1: this says that a table was refused, and is no list";
+    unread("refused\t3\n", refused);
+    unread("\u{e9}\n", "line 1, column 1: 'é' is no hexadecimal digit");
 }
 
 #[test]

@@ -35,10 +35,6 @@ fn faults_of_tables(cases: &[(&str, Said)]) {
     }
 }
 
-fn with_header(lines: &str) -> String {
-    format!("slot left right shared edge\n{lines}")
-}
-
 #[test]
 fn a_list_is_read_back() {
     for text in [
@@ -83,85 +79,50 @@ fn the_short_form_is_read() {
     assert!(all.contains_all_keys());
 }
 
+const ENDS_THERE: &str = "the next slot begins with 4135, so this one ends there";
+const SHARE_41: &str = "what the keys of this slot share is 41";
+const FOUR_FIELDS: &str = "a line of the list has 5 fields, and this has 4";
+const SIX_FIELDS: &str = "a line of the list has 5 fields, and this has 6";
+const NO_LIST: &str = "this says that a table was refused, and is no list";
+
+/// What is said of T's list, with spaces, and with another text in the place of one.
+const SLIPS: [(&str, &str, Said); 15] = [
+    ("0 4130", "1 4130", (2, 1, "this is slot 0", 0)),
+    ("1 4135", "01 4135", (3, 1, "this is slot 1", 0)),
+    ("4135 41", "4136 41", (2, 8, ENDS_THERE, 0)),
+    ("4135 41", "max 41", (2, 8, ENDS_THERE, 0)),
+    ("41 43", "4130 43", (2, 13, SHARE_41, 0)),
+    ("41 43", "- 43", (2, 13, SHARE_41, 0)),
+    ("41 -", "42 -", (3, 11, SHARE_41, 0)),
+    (" 41 43", " 43", (2, 1, FOUR_FIELDS, 0)),
+    ("41 -", "41 - -", (3, 1, SIX_FIELDS, 0)),
+    ("4130", "413g", (2, 6, "'g' is no hexadecimal digit", 0)),
+    (
+        "4130",
+        "413",
+        (2, 6, "a byte has two digits, and the last has one", 0),
+    ),
+    (
+        "4130",
+        "max",
+        (2, 3, "max can only be the end of the table", 0),
+    ),
+    (
+        "4130",
+        "4130\u{a0}",
+        (2, 7, "'\\u{a0}' is no hexadecimal digit", 0),
+    ),
+    ("41 43", ". 43", (2, 13, "'.' is no hexadecimal digit", 0)),
+    ("41 43", "41 max", (2, 16, "'m' is no hexadecimal digit", 0)),
+];
+
 #[test]
 fn faults_of_a_list() {
-    let three = with_header("0 4130 4135 41 43\n1 4135 42 41 -\n");
-    let at = |old: &str, new: &str| three.replacen(old, new, 1);
-    faults_of_tables(&[
-        (&at("0 4130", "1 4130"), (2, 1, "this is slot 0", 0)),
-        (&at("1 4135", "01 4135"), (3, 1, "this is slot 1", 0)),
-        (
-            &at("4135 41", "4136 41"),
-            (
-                2,
-                8,
-                "the next slot begins with 4135, so this one ends there",
-                0,
-            ),
-        ),
-        (
-            &at("4135 41", "max 41"),
-            (
-                2,
-                8,
-                "the next slot begins with 4135, so this one ends there",
-                0,
-            ),
-        ),
-        (
-            &at("41 43", "4130 43"),
-            (2, 13, "what the keys of this slot share is 41", 0),
-        ),
-        (
-            &at("41 43", "- 43"),
-            (2, 13, "what the keys of this slot share is 41", 0),
-        ),
-        (
-            &at("41 -", "42 -"),
-            (3, 11, "what the keys of this slot share is 41", 0),
-        ),
-        (
-            &at(" 41 43", " 43"),
-            (2, 1, "a line of the list has 5 fields, and this has 4", 0),
-        ),
-        (
-            &at("41 -", "41 - -"),
-            (3, 1, "a line of the list has 5 fields, and this has 6", 0),
-        ),
-        (
-            &at("4130", "413g"),
-            (2, 6, "'g' is no hexadecimal digit", 0),
-        ),
-        (
-            &at("4130", "413"),
-            (2, 6, "a byte has two digits, and the last has one", 0),
-        ),
-        (
-            &at("4130", "max"),
-            (2, 3, "max can only be the end of the table", 0),
-        ),
-        (
-            &at("4130", "4130\u{a0}"),
-            (2, 7, "'\\u{a0}' is no hexadecimal digit", 0),
-        ),
-        (
-            &at("41 43", ". 43"),
-            (2, 13, "'.' is no hexadecimal digit", 0),
-        ),
-        (
-            &at("41 43", "41 max"),
-            (2, 16, "'m' is no hexadecimal digit", 0),
-        ),
-        (
-            "refused\t1\n",
-            (
-                1,
-                1,
-                "this says that a table was refused, and is no list",
-                0,
-            ),
-        ),
-    ]);
+    let list = LIST_OF_T.replace('\t', " ");
+    for (old, new, said) in SLIPS {
+        faults_of_tables(&[(&list.replacen(old, new, 1), said)]);
+    }
+    faults_of_tables(&[("refused\t1\n", (1, 1, NO_LIST, 0))]);
 }
 
 #[test]
@@ -224,7 +185,7 @@ fn refused_tables() {
 fn the_text_is_read_before_the_table_is_checked() {
     let error = "41 -\n40 -\n4x\n".parse::<Table>().unwrap_err();
     assert_eq!((error.line(), error.refusal()), (3, None));
-    let unsorted = with_header("0 41 40 07 -\n").parse::<Table>().unwrap_err();
+    let unsorted = "0 41 40 07 -\n".parse::<Table>().unwrap_err();
     assert_eq!(unsorted.refusal(), Some(Refusal::Unsorted));
 }
 
