@@ -105,6 +105,19 @@ impl fmt::Display for Seen<'_> {
 }
 
 impl Call {
+    /// The tables of a case, each as pivots and edges; without edges where the call takes none.
+    pub fn tables<'a>(&self, asked: &Asked<'a>) -> impl Iterator<Item = [&'a [u8]; 2]> + 'a {
+        let (arguments, slices) = (self.arguments, asked.slices);
+        let kinds = arguments.iter().map(|(_, kind)| *kind);
+        let next = kinds.clone().skip(1).map(Some).chain([None]);
+        let tables = kinds.zip(next).enumerate();
+        tables.filter_map(move |(at, kinds)| match kinds {
+            (Kind::Pivots | Kind::Second, Some(Kind::Edges)) => Some([slices[at], slices[at + 1]]),
+            (Kind::Pivots | Kind::Child, _) => Some([slices[at], &[]]),
+            _ => None,
+        })
+    }
+
     /// The case in full: each argument's name, length and bytes.
     pub fn text(&self, asked: &Asked) -> String {
         let mut parts: Vec<String> = self

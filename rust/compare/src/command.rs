@@ -10,6 +10,8 @@ mod show;
 mod values;
 mod wanted;
 
+pub use lists::EveryTable;
+
 use crate::call::Hex;
 use crate::group::{test, Group, Test};
 use ::command::{run, Streams};

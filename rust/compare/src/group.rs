@@ -2,6 +2,7 @@
 use crate::asked::{Asked, MOST_DESTS};
 use crate::call::{Call, Seen};
 use crate::lent::{before, number_before, Lent};
+use crate::lent_tables::LentTables;
 
 /// What is written down by hand for a case.
 pub enum Wanted<'a> {
@@ -19,6 +20,7 @@ pub struct Group {
     cases: u64,
     failure: Option<String>,
     lent: Lent,
+    tables: LentTables,
     reference: [Vec<u8>; MOST_DESTS],
 }
 
@@ -49,6 +51,7 @@ impl Group {
             return;
         }
         self.cases += 1;
+        self.tables.take(call, asked);
         let salt = self.cases as u8;
         self.lent.fill(asked, salt);
         let status = (call.archive)(asked, &mut self.lent);
@@ -92,6 +95,11 @@ impl Group {
         let all: usize = sorts.iter().sum();
         let enough = all > 0 && sorts.iter().all(|sort| 20 * sort >= all);
         self.check(enough, || format!("too few cases of one sort: {sorts:?}"));
+    }
+
+    /// The tables that its cases lent, as inputs of the list, each once.
+    pub fn tables(&self) -> impl Iterator<Item = &[u8]> {
+        self.tables.inputs()
     }
 
     pub fn fail(&mut self, text: &str) {

@@ -17,6 +17,7 @@ mod joining;
 mod key_calls;
 mod lengths;
 mod lent;
+mod lent_tables;
 mod list;
 mod list_inputs;
 mod malformed;
@@ -34,6 +35,7 @@ mod told;
 mod upper_bounds;
 mod wrapper;
 
+use command::EveryTable;
 use group::{test, Group, Test};
 use std::panic::{catch_unwind, AssertUnwindSafe};
 use std::process::ExitCode;
@@ -94,6 +96,11 @@ fn tests_of_every_call() -> Vec<Test> {
 
 fn main() -> ExitCode {
     let (mut passed, mut failed) = (0, 0);
+    let mut count = |has_passed| match has_passed {
+        true => passed += 1,
+        false => failed += 1,
+    };
+    let mut every_table = EveryTable::default();
     let tests = [
         tests_by_hand(),
         tests_of_one_call(),
@@ -115,12 +122,10 @@ fn main() -> ExitCode {
         if catch_unwind(AssertUnwindSafe(|| (test.body)(&mut group))).is_err() {
             group.fail("it stopped by a panic");
         }
-        if group.report(&test.name) {
-            passed += 1;
-        } else {
-            failed += 1;
-        }
+        every_table.of(&group);
+        count(group.report(&test.name));
     }
+    count(every_table.report());
     println!("{passed} passed, {failed} failed");
     ExitCode::from(u8::from(failed > 0))
 }

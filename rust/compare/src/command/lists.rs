@@ -11,6 +11,8 @@ use crate::list::{by_hand, laws, random, small};
 use crate::list_inputs::joined;
 use crate::random::slices;
 use crate::table_inputs::{absent, distinct, rising};
+use std::collections::HashSet;
+use std::hash::{DefaultHasher, Hash, Hasher};
 
 const SEED: u64 = 20_420_627;
 
@@ -50,13 +52,43 @@ const fn sort(name: &'static str, mixed: bool, each: Each) -> Sort {
 
 pub fn tests() -> Vec<Test> {
     let mut tests = vec![test("command: list and table by hand", |group| {
-        by_hand::each(|input, text| both_ways(group, input, text));
+        by_hand::each(|input, text| {
+            both_ways(group, input, text);
+        });
     })];
     for sort in SORTS {
         let name = format!("command: list and table, {}", sort.name);
         tests.push(test(name, move |group| each_of(group, &sort)));
     }
     tests
+}
+
+/// Every table that a case of a group lent to a call, once.
+#[derive(Default)]
+pub struct EveryTable {
+    group: Group,
+    /// By their hashes.
+    seen: HashSet<u64>,
+    sorts: [usize; 2],
+}
+
+impl EveryTable {
+    pub fn of(&mut self, group: &Group) {
+        for input in group.tables() {
+            let mut hasher = DefaultHasher::new();
+            input.hash(&mut hasher);
+            if self.seen.insert(hasher.finish()) {
+                let sort = both_ways(&mut self.group, input, &list_text(input));
+                self.sorts[usize::from(sort)] += 1;
+            }
+        }
+    }
+
+    pub fn report(mut self) -> bool {
+        self.group.sorts(&self.sorts);
+        self.group
+            .report("command: list and table, every table that a call was lent")
+    }
 }
 
 /// The inputs of all sorts.
@@ -82,20 +114,20 @@ fn each_of_any(body: &mut dyn FnMut(&[u8])) {
 fn each_of(group: &mut Group, sort: &Sort) {
     let mut seen = [0; 2];
     (sort.each)(&mut |input| {
-        let text = list_text(input);
-        both_ways(group, input, &text);
-        seen[usize::from(refusal_in(&text).is_none())] += 1;
+        let sort = both_ways(group, input, &list_text(input));
+        seen[usize::from(sort)] += 1;
     });
     if sort.mixed {
         group.sorts(&seen);
     }
 }
 
-/// An input and its text, from one to the other.
-fn both_ways(group: &mut Group, input: &[u8], list: &str) {
+/// An input and its text, from one to the other; and whether it is a table.
+fn both_ways(group: &mut Group, input: &[u8], list: &str) -> bool {
     if let Some(number) = refusal_in(list) {
         expect(group, &["list", "-"], input, &Err(number));
-        return no_list(group, list);
+        no_list(group, list);
+        return false;
     }
     let (listed, table) = (Ok(list.into()), Ok(input.to_vec()));
     expect(group, &["list", "-"], input, &listed);
@@ -105,6 +137,7 @@ fn both_ways(group: &mut Group, input: &[u8], list: &str) {
         let short = format!("{names}{}", short(list));
         expect(group, &["table", "-"], short.as_bytes(), &table);
     }
+    true
 }
 
 /// The text of a refusal is no list.

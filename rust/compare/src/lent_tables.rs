@@ -1,0 +1,37 @@
+//! The tables that the cases of a group lend, for the list and back.
+use crate::asked::Asked;
+use crate::call::Call;
+use crate::list_inputs::joined;
+use crate::table_inputs::absent;
+use std::collections::HashSet;
+
+#[derive(Default)]
+pub struct LentTables {
+    inputs: HashSet<Vec<u8>>,
+    /// Those of the last case: cases of the same table come one after the other.
+    last: Vec<[Vec<u8>; 2]>,
+}
+
+impl LentTables {
+    /// Where a call takes no edges, the table has none.
+    pub fn take(&mut self, call: &Call, asked: &Asked) {
+        let same = call
+            .tables(asked)
+            .eq(self.last.iter().map(|[pivots, edges]| [&pivots[..], edges]));
+        if same {
+            return;
+        }
+        let owned = |table: [&[u8]; 2]| table.map(<[u8]>::to_vec);
+        self.last = call.tables(asked).map(owned).collect();
+        for [pivots, edges] in &self.last {
+            self.inputs.insert(match edges.is_empty() {
+                true => joined(pivots, &absent((pivots.len() / 66).saturating_sub(1))),
+                false => joined(pivots, edges),
+            });
+        }
+    }
+
+    pub fn inputs(&self) -> impl Iterator<Item = &[u8]> {
+        self.inputs.iter().map(Vec::as_slice)
+    }
+}
