@@ -13,7 +13,7 @@ pub struct LentTables {
 }
 
 impl LentTables {
-    /// Where a call takes no edges, the table has none.
+    /// Where no edges are lent, no slot has one.
     pub fn take(&mut self, call: &Call, asked: &Asked) {
         let same = call
             .tables(asked)
