@@ -3,7 +3,7 @@ use crate::names::check;
 use crate::report::Report;
 use crate::repository::Repository;
 
-const FILES: [(&str, &str); 10] = [
+const FILES: [(&str, &str); 12] = [
     ("docs/FORMAT.md", ""),
     ("docs/src/INDEX.md", "`nothing_like_it`\n"),
     ("docs/src/lib/M.dfy", "  // each bucket is non-empty\n  requires e.Element?\n"),
@@ -26,6 +26,8 @@ const FILES: [(&str, &str); 10] = [
     ("crates/tables/must-fail/swapped.edit", "written_there"),
     ("include/joistdenim.h", "/* of_a_note\n */\nuint32_t jd_route(void);\n"),
     ("rust/documents/src/sample.rs", "only_here"),
+    ("dafny/cases/Keys.dfy", "  // told_of here\n  method Near(key: Key)\n"),
+    ("dafny/recorded.txt", "drawn_there"),
 ];
 
 fn report(readme: &str, exceptions: &[(&str, &str)]) -> Report {
@@ -114,7 +116,14 @@ fn law_not_declared() {
 
 #[test]
 fn words() {
-    passes(&["isKey", "isKey(e)", "jd_", "jd_..", "jd_route(k, 2)"]);
+    passes(&[
+        "isKey",
+        "isKey(e)",
+        "jd_",
+        "jd_..",
+        "jd_route(k, 2)",
+        "Near",
+    ]);
     passes(&["00 02 FF 41×62", "0x4000_0000", "a + b", "→", "--"]);
 }
 
@@ -124,6 +133,7 @@ fn word_nowhere() {
     fails("jd_routes", "jd_routes is no word of the code");
     fails("jdx_", "jdx_ is no word of the code");
     fails("isKey nowhere", "nowhere is no word of the code");
+    fails("drawn_there", "drawn_there is no word of the code");
 }
 
 #[test]
@@ -131,6 +141,7 @@ fn word_in_a_comment_alone() {
     fails("spokenOf", "spokenOf is no word of the code");
     fails("spoken_of", "spoken_of is no word of the code");
     fails("of_a_note", "of_a_note is no word of the code");
+    fails("told_of", "told_of is no word of the code");
 }
 
 #[test]

@@ -10,6 +10,7 @@ pub fn is_code(path: &str) -> bool {
         "crates" => ending == "rt" || ending == "antt",
         "rust" => ending != "lock" && !path.starts_with(THIS_CRATE),
         "docs" => ending == "dfy",
+        "dafny" => ending != "txt",
         "include" | "tests" | ".ci" | "examples" => true,
         _ => path == "crates.txt",
     }
@@ -22,9 +23,9 @@ fn ending(path: &str) -> &str {
 /// Words outside comments; the source's count everywhere. A law's name is one word.
 pub fn words_of_code(path: &str, text: &str) -> Vec<String> {
     let mark = match ending(path) {
-        "dfy" => None,
+        "dfy" if path.starts_with("docs/") => None,
         "antt" => Some("--"),
-        "rt" | "rs" | "c" | "h" => Some("//"),
+        "rt" | "rs" | "c" | "h" | "dfy" => Some("//"),
         _ => Some("#"),
     };
     let mut found = vec![];
