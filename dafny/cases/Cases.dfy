@@ -1,5 +1,5 @@
 // Runs the source's functions on inputs at random, and prints both. Settings has the seed and the
-// number of rounds.
+// number of rounds. Nothing of the program is verified; it claims nothing, and only draws and prints.
 
 module Cases {
   import opened BoundedPivotsLib

@@ -78,7 +78,6 @@ module Text {
 
   // Key and number of each entry.
   function method OfEntries(keys: seq<Key>, msgs: seq<uint32>): Words
-    requires |keys| == |msgs|
   {
     if keys == [] then []
     else

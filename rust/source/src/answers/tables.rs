@@ -79,24 +79,28 @@ pub fn cutoff_for_right(inputs: &Inputs) -> Answer {
 /// A call that writes a table.
 type Cut = fn(&[u8], &[u8], &[u8], &mut [u8], &mut [u8]) -> Result<usize, Refusal>;
 
-/// The pivots that are written where the table has no edges.
-fn pivots_of(inputs: &Inputs, call: Cut) -> Answer {
-    let pivots = inputs.records("pt");
+/// The pivots and the edges that are written.
+fn written(inputs: &Inputs, edges: &[u8], call: Cut) -> Result<[String; 2], Refusal> {
+    let (pivots, key) = (inputs.records("pt"), inputs.key("key"));
     let (mut dest, mut dest_edges) = (records_room(), records_room());
-    let (edges, key) = (no_edges(&pivots), inputs.key("key"));
-    let written = call(&pivots, &edges, &key, &mut dest, &mut dest_edges)?;
-    Ok(words::of_records(&dest[..written * RECORD_SIZE]))
+    let count = call(&pivots, edges, &key, &mut dest, &mut dest_edges)?;
+    let pivots = words::of_records(&dest[..count * RECORD_SIZE]);
+    let edges = words::of_records(&dest_edges[..(count - 1) * RECORD_SIZE]);
+    Ok([pivots, edges])
 }
 
-/// The pivots and the edges that are written.
+/// Of a table without edges, which must stay without.
+fn pivots_of(inputs: &Inputs, call: Cut) -> Answer {
+    let [pivots, edges] = written(inputs, &no_edges(&inputs.records("pt")), call)?;
+    if edges.split(' ').any(|edge| edge != "-") {
+        return Ok(format!("{pivots} | {edges}"));
+    }
+    Ok(pivots)
+}
+
 fn table_of(inputs: &Inputs, call: Cut) -> Answer {
-    let (pivots, edges) = (inputs.records("pt"), inputs.records("et"));
-    let (mut dest, mut dest_edges) = (records_room(), records_room());
-    let key = inputs.key("key");
-    let written = call(&pivots, &edges, &key, &mut dest, &mut dest_edges)?;
-    let pivots = words::of_records(&dest[..written * RECORD_SIZE]);
-    let edges = words::of_records(&dest_edges[..(written - 1) * RECORD_SIZE]);
-    Ok(format!("{pivots} | {edges}"))
+    let table = written(inputs, &inputs.records("et"), call)?;
+    Ok(table.join(" | "))
 }
 
 pub fn split_left(inputs: &Inputs) -> Answer {
