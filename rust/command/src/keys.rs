@@ -33,7 +33,7 @@ fn hexadecimal(text: &str) -> Result<Vec<u8>, (usize, String)> {
     let mut place = 0;
     for part in text.split(separator) {
         if part.is_empty() && separator == ':' {
-            let colon = place.min(text.chars().count() - 1);
+            let colon = place.min(text.len() - 1);
             let missing = "a colon stands between two bytes, and one is missing";
             return Err((colon, missing.into()));
         }
@@ -42,7 +42,8 @@ fn hexadecimal(text: &str) -> Result<Vec<u8>, (usize, String)> {
             (place, fault(error, text.chars().nth(place)))
         })?;
         bytes.extend(part_bytes);
-        place += part.chars().count() + 1;
+        // A part that was read is digits, so its bytes are its characters.
+        place += part.len() + 1;
     }
     Ok(bytes)
 }
