@@ -1,15 +1,12 @@
 //! The arguments of a command: options, and the rest in turn.
 use crate::failure::Failure;
+use crate::keys;
 use crate::pages::Page;
-use joistdenim::{from_hex, TextError};
 use std::ffi::{OsStr, OsString};
 use std::os::unix::ffi::OsStrExt;
 
 /// Standard input, or standard output, in place of a file.
 pub const STREAM: &str = "-";
-
-/// The empty key, where standard input can't stand.
-const EMPTY_KEY: &[u8] = b"-";
 
 pub struct Arguments {
     page: &'static Page,
@@ -88,16 +85,9 @@ impl Arguments {
 
     /// The bytes of a key in hexadecimal, or with `--text` as it is written.
     pub fn bytes(&self, word: &OsStr) -> Result<Vec<u8>, Failure> {
-        let bytes = read_bytes(word.as_bytes(), self.has("--text"));
-        bytes.map_err(|error| self.wrong(format!("{word:?} is no key: {error}")))
-    }
-}
-
-/// The bytes of a key, though it may be too long for one.
-pub fn read_bytes(word: &[u8], as_written: bool) -> Result<Vec<u8>, TextError> {
-    match (word, as_written) {
-        (_, true) => Ok(word.into()),
-        (EMPTY_KEY, false) => Ok(vec![]),
-        (_, false) => from_hex(&String::from_utf8_lossy(word)),
+        let bytes = keys::read(word.as_bytes(), self.has("--text"));
+        bytes.map_err(|keys::Fault { column, text }| {
+            self.wrong(format!("{word:?} is no key: column {column}: {text}"))
+        })
     }
 }

@@ -9,6 +9,7 @@ mod check;
 mod failure;
 mod files;
 mod help;
+mod keys;
 mod list;
 mod man;
 mod output;
@@ -31,6 +32,8 @@ pub struct Streams<'a> {
     pub terminal: bool,
     /// Whether it takes colour.
     pub colour: bool,
+    /// Whether standard error is a terminal.
+    pub errors_terminal: bool,
 }
 
 /// Runs the command with these arguments, and answers its exit status.

@@ -15,6 +15,7 @@ fn main() -> ExitCode {
         errors: &mut stderr().lock(),
         terminal,
         colour: terminal && !is_dumb && !is_set("NO_COLOR"),
+        errors_terminal: stderr().is_terminal(),
     };
     ExitCode::from(run(std::env::args_os().skip(1), &mut streams))
 }

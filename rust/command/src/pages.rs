@@ -74,9 +74,10 @@ pub const PAGES: &[Page] = &[
         usage: "[--text] [--tsv] TABLE KEY..",
         about: "shows what becomes of keys",
         text: &[
-            "Shows for each key its slot and range, the prefix that the slot's keys share, the edge and the renamed key. What was replaced and what stands in its place is marked: by colour on a terminal, else by a line below.",
-            "A key that is refused is told on standard error, and the status is 1.",
-            "With - in place of a key it reads keys from standard input, one a line, and answers each before it reads the next. There, and with --tsv, each key has its answer on standard output, a refused one too, in its place. So has a line that is no key; the status is 2 then.",
+            "Shows for each key its slot and range, the prefix that the slot's keys share, the edge and the renamed key. What was replaced and what stands in its place is marked by a line below, on a terminal by colour too.",
+            "Each argument is one key: 413107, \"41 31 07\" or 41:31:07. One that is refused is told on standard error, and the status is 1. One that can't be read is told there, too, and the status is 2. The others are shown.",
+            "With - in place of a key it reads keys from standard input, one a line, and answers each before it reads the next. Blank lines are passed over, and so is what follows a #; the empty key is -. With --text a line is taken as it stands.",
+            "From standard input, and with --tsv, each key has its answer on standard output, in its place: a refused one too, and what is no key. Where both outputs are a terminal, what a block says of a line isn't said on standard error again.",
         ],
         options: &[
             TEXT,
@@ -157,7 +158,7 @@ pub const ABOUT: &[Section] = &[
     Section {
         title: "Keys",
         text: &[
-            "A key has at most 64 bytes, here in hexadecimal, two digits a byte. The empty key is - in texts and for cut, insert and bucket; for show, where - is standard input, and with --text it is ''. The end of a table may be max, which is above every key. In the column of edges - is no edge, and . the empty one.",
+            "A key has at most 64 bytes, here in hexadecimal, two digits a byte. As an argument, or as a line that show reads, it may have spaces or colons between its bytes: \"41 31 07\" or 41:31:07. The empty key is - in texts and for cut, insert and bucket; for show, where - is standard input, and with --text it is ''. The end of a table may be max, which is above every key. In the column of edges - is no edge, and . the empty one.",
         ],
     },
     Section {

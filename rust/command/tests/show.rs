@@ -1,44 +1,9 @@
-//! `show`: blocks and rows, marks and colour, refusals, and keys line by line.
+//! `show` of keys that are arguments: blocks and rows, marks and colour, refusals, and what can't
+//! be read.
 mod support;
 
-use std::io::{BufRead, BufReader, Write};
-use std::process::Stdio;
-use std::sync::mpsc::{channel, RecvTimeoutError};
-use std::thread;
-use std::time::Duration;
-use support::{program, ran, ran_in, ran_words, table, Folder, Ran, SHORT_T};
-
-const BLOCK: &str = "key      413107
-         ^^ replaced
-slot     0, from 4130 up to 4135
-shared   41
-edge     43
-renamed  433107
-         ^^ in its place
-";
-
-const UNCHANGED: &str = "key      4135
-slot     1, from 4135 up to 42
-shared   41
-edge     - (none: the key stays as it is)
-renamed  4135
-";
-
-const OUTSIDE: &str = "42 is outside the table, which goes from 4130 up to, but without, 42";
-
-const HEADER: &str = "key\tslot\tleft\tright\tshared\tedge\trenamed\trefusal\n";
-
-/// Of T, with these arguments.
-fn of_t(arguments: &str) -> Ran {
-    ran(&arguments.replace('T', "-"), table(SHORT_T))
-}
-
-/// Keys on standard input, of T in a file.
-fn lines(options: &str, input: &[u8]) -> Ran {
-    let folder = Folder::new();
-    let t = folder.with("t.table", table(SHORT_T));
-    ran(&format!("show {options} {t} -"), input)
-}
+use support::shown::{column, lines, of_t, BLOCK, HEADER, OUTSIDE, UNCHANGED};
+use support::{ran, ran_each, ran_in, table, Ran, SHORT_T};
 
 #[test]
 fn a_key_is_shown() {
@@ -67,8 +32,7 @@ shared   - (empty)
 edge     - (none: the key stays as it is)
 renamed  - (empty)
 ";
-    let words = ["show", "-", ""].map(Into::into).into_iter();
-    assert_eq!(ran_words(words, &stripped, false, false).text(), empty);
+    assert_eq!(ran_each(&["show", "-", ""], &stripped).text(), empty);
     let last = ran("show - ff", &stripped).text();
     assert!(last.contains("slot     2, from 4135 up to max\nshared   - (empty)\n"));
     let whole = table("41 .\n42\n");
@@ -80,10 +44,12 @@ renamed  - (empty)
 #[test]
 fn what_changed_has_colour_on_a_terminal() {
     let coloured = "key      \x1b[31m41\x1b[0m3107
+         ^^ replaced
 slot     0, from 4130 up to 4135
 shared   41
 edge     43
 renamed  \x1b[1;32m43\x1b[0m3107
+         ^^ in its place
 ";
     let shown = |terminal, colour| ran_in("show - 413107", table(SHORT_T), terminal, colour);
     assert_eq!(shown(true, true).text(), coloured);
@@ -101,17 +67,8 @@ renamed  433178 \"C1x\"
          ^^ in its place
 ";
     assert_eq!(of_t("show --text T A1x").text(), block);
-    let escaped = ran_words(
-        ["show", "--text", "-", "A1\t\""]
-            .map(Into::into)
-            .into_iter(),
-        table(SHORT_T),
-        false,
-        false,
-    );
-    assert!(escaped
-        .text()
-        .starts_with("key      41310922 \"A1\\t\\\"\"\n"));
+    let escaped = ran_each(&["show", "--text", "-", "A1\t\""], table(SHORT_T)).text();
+    assert!(escaped.starts_with("key      41310922 \"A1\\t\\\"\"\n"));
 }
 
 #[test]
@@ -125,17 +82,6 @@ fn a_refused_key_is_told() {
     let long = table(&format!("4130 {edge}\n4135\n"));
     let line = format!("refused 8: 413000 with {edge} in place of 41 would pass 64 bytes");
     ran("show - 413000", long).failed(1, &line);
-}
-
-#[test]
-fn a_refused_key_is_shown_as_it_is_written() {
-    let shown = lines("--text", b"B\n\n");
-    let goes = "outside the table, which goes from 4130 up to, but without, 42";
-    let output = format!(
-        "key      42 \"B\"\nrefused  5: 42 \"B\" is {goes}\n\n\
-         key      - (empty)\nrefused  5: - (empty) is {goes}\n"
-    );
-    assert_eq!(String::from_utf8(shown.output).unwrap(), output);
 }
 
 #[test]
@@ -156,96 +102,46 @@ fn rows_have_an_answer_for_each_key() {
 }
 
 #[test]
-fn each_line_has_an_answer_in_its_place() {
-    let shown = lines("", b"413107\n42\n4g\n 4135 \r\n");
-    let unread = "standard input, line 3, column 2: 'g' is no hexadecimal digit";
-    let refused = format!("key      42\nrefused  5: {OUTSIDE}\n");
-    let output = format!("{BLOCK}\n{refused}\nunread   {unread}\n\n{UNCHANGED}");
-    assert_eq!(String::from_utf8(shown.output).unwrap(), output);
-    let errors = format!("refused 5: {OUTSIDE}\njoistdenim: {unread}\n");
-    assert_eq!((shown.status, shown.errors), (2, errors));
-    let rows = lines("--tsv", b"42\n  4g\n413107");
-    let output = format!(
-        "{HEADER}42\t\t\t\t\t\t\t5\n\t\t\t\t\t\t\t?\n413107\t0\t4130\t4135\t41\t43\t433107\t0\n"
-    );
-    assert_eq!(String::from_utf8(rows.output).unwrap(), output);
-    assert!(rows
-        .errors
-        .ends_with("standard input, line 2, column 4: 'g' is no hexadecimal digit\n"));
-    assert_eq!(rows.status, 2);
-    assert_eq!(lines("", b"42\n").status, 1);
-    assert_eq!(lines("", b"4g\n42\n").status, 2);
-    assert_eq!(lines("", b"413107\n").text(), BLOCK);
-    assert_eq!(lines("", b"").text(), "");
-}
-
-#[test]
-fn lines_as_text_are_taken_as_they_stand() {
-    let rows = lines("--text --tsv", b"A1 \nA1\xFF\n\n");
+fn what_cant_be_read_is_told_and_the_others_are_shown() {
+    let line = "joistdenim: \"4g\" is no key: column 2: 'g' is no hexadecimal digit; \
+                'joistdenim show --help' tells more\n";
+    let beside = of_t("show T 4g 413107");
+    assert_eq!(beside.output, BLOCK.as_bytes());
+    assert_eq!((beside.status, &*beside.errors), (2, line));
+    let rows = of_t("show --tsv T 413107 4g 42");
+    assert_eq!(column(&rows, 0), ["key", "413107", "", "42"]);
+    assert_eq!(column(&rows, 7), ["refusal", "0", "?", "5"]);
     let output = String::from_utf8(rows.output).unwrap();
-    let keys: Vec<&str> = output
-        .lines()
-        .map(|row| row.split('\t').next().unwrap())
-        .collect();
-    assert_eq!(keys, ["key", "413120", "4131ff", "-"]);
-    let unclear = lines("--text --tsv", b"A1\r\n\rA\n");
-    let line = "line 1, column 3: whether this CR ends the line or the key can't be told\n";
-    assert!(unclear
-        .errors
-        .starts_with(&format!("joistdenim: standard input, {line}")));
-    assert_eq!(unclear.status, 2);
+    assert!(output.contains("\n\t\t\t\t\t\t\t?\n"));
+    let errors = format!("{line}refused 5: {OUTSIDE}\n");
+    assert_eq!((rows.status, rows.errors), (2, errors));
 }
 
 #[test]
-fn a_line_too_long_doesnt_end_the_others() {
-    let most = 1 << 16;
-    let input = [
-        &vec![b'4'; most + 1][..],
-        b"\n413107\n",
-        &vec![b'4'; most],
-        b"\n",
-    ]
-    .concat();
-    let rows = lines("--tsv", &input);
-    let output = String::from_utf8(rows.output).unwrap();
-    let refusals: Vec<&str> = output
-        .lines()
-        .map(|row| row.rsplit('\t').next().unwrap())
-        .collect();
-    assert_eq!(refusals, ["refusal", "?", "0", "2"]);
-    let line = "joistdenim: standard input, line 1, column 65537: a line has at most 65536 bytes\n";
-    assert!(rows.errors.starts_with(line));
-}
-
-#[test]
-fn wrong_usage_shows_nothing() {
-    let shown = of_t("show T 413107 4g");
-    assert_eq!((shown.status, &shown.output[..]), (2, &b""[..]));
-}
-
-#[test]
-fn a_line_is_answered_before_the_next_is_read() {
-    let folder = Folder::new();
-    let t = folder.with("t.table", table(SHORT_T));
-    let mut show = program();
-    show.args(["show", "--tsv", &t, "-"]);
-    show.stdin(Stdio::piped())
-        .stdout(Stdio::piped())
-        .stderr(Stdio::null());
-    let mut show = show.spawn().expect("the command runs");
-    let mut keys = show.stdin.take().expect("standard input");
-    let rows = BufReader::new(show.stdout.take().expect("standard output"));
-    let (sender, receiver) = channel();
-    thread::spawn(move || rows.lines().for_each(|row| drop(sender.send(row))));
-    let next = || receiver.recv_timeout(Duration::from_secs(20));
-    let next = || next().map(|row| row.expect("a row"));
-    assert_eq!(next(), Ok(HEADER.trim_end().into()));
-    for (key, refusal) in [("413107", 0), ("42", 5), ("4135", 0), ("", 5)] {
-        writeln!(keys, "{key}").expect("a key is taken");
-        let row = next().expect("an answer comes");
-        assert!(row.ends_with(&format!("\t{refusal}")), "{key}");
+fn single_bytes_that_are_all_refused_are_told_to_be_keys() {
+    let told = |arguments: &str, line: &str| {
+        let last = of_t(arguments).errors.lines().last().map(str::to_string);
+        assert_eq!(last.as_deref(), Some(line), "{arguments}");
+    };
+    let line = "joistdenim: these are 3 keys of one byte each; \
+                for one key write 413107 or \"41 31 07\"";
+    told("show T 41 31 07", line);
+    told("show --tsv T 41 31 07", line);
+    assert_eq!(of_t("show T 41 31 07").status, 1);
+    assert_eq!(of_t("show T 41 31 07").errors.lines().count(), 4);
+    let many = "show T".to_string() + &" ff".repeat(64);
+    assert!(of_t(&many).errors.contains("these are 64 keys"));
+    let is_silent = |ran: Ran| !ran.errors.contains("these are");
+    for arguments in [
+        "show T 42",
+        "show T 41 3107",
+        "show T 41 31 413107",
+        "show T 41 31 7",
+        "show --text T B C",
+        &format!("{many} ff"),
+    ] {
+        assert!(is_silent(of_t(arguments)), "{arguments}");
     }
-    drop(keys);
-    assert_eq!(next(), Err(RecvTimeoutError::Disconnected));
-    assert_eq!(show.wait().expect("it ends").code(), Some(1));
+    assert!(is_silent(ran("show - 41 50", table("41 -\n43\n"))));
+    assert!(is_silent(lines("", b"42\n43\n")));
 }

@@ -67,7 +67,10 @@ fn on_terminal(line: &str, folder: &Folder) -> String {
 fn a_terminal_has_colour_and_no_bytes() {
     let folder = folder();
     let show = "joistdenim show t.table 413107";
-    let coloured = |shown: &str| shown.contains("\x1b[31m41\x1b[0m3107\n");
+    let coloured = |shown: &str| {
+        shown.contains("\x1b[31m41\x1b[0m3107\n         ^^ replaced\n")
+            && shown.contains("\x1b[1;32m43\x1b[0m3107\n         ^^ in its place\n")
+    };
     let marked = |shown: &str| shown.contains("413107\n         ^^ replaced\n");
     assert!(coloured(&on_terminal(
         &format!("TERM=xterm {show}"),
@@ -92,4 +95,35 @@ fn a_terminal_has_colour_and_no_bytes() {
     let line = "joistdenim: the result is bytes and not for a terminal: give -o FILE; \
                 'joistdenim cut --help' tells more\n2\n";
     assert_eq!(bytes, line);
+}
+
+#[test]
+fn a_terminal_shows_a_refused_line_once() {
+    let folder = folder();
+    let outside = "5: 42 is outside the table, which goes from 4130 up to, but without, 42\n";
+    let unread = "standard input, line 2, column 2: 'g' is no hexadecimal digit\n";
+    let blocks = format!("key      42\nrefused  {outside}\nunread   {unread}");
+    let told = format!("refused {outside}joistdenim: {unread}");
+    let keys = "printf \"42\\n4g\\n\" | joistdenim show";
+    let once = on_terminal(&format!("{keys} t.table -; echo $?"), &folder);
+    assert_eq!(once, format!("{blocks}2\n"));
+    let apart = on_terminal(&format!("{keys} t.table - 2>errors"), &folder);
+    assert_eq!(apart, blocks);
+    assert_eq!(
+        fs::read(folder.at("errors")).expect("a log"),
+        told.as_bytes()
+    );
+    assert_eq!(
+        on_terminal(&format!("{keys} t.table - >answers"), &folder),
+        told
+    );
+    assert_eq!(
+        fs::read(folder.at("answers")).expect("answers"),
+        blocks.as_bytes()
+    );
+    let rows = on_terminal(&format!("{keys} --tsv t.table -"), &folder);
+    assert!(rows.contains(&format!("\nrefused {outside}42\t")));
+    assert!(rows.ends_with(&format!("joistdenim: {unread}\t\t\t\t\t\t\t?\n")));
+    let argument = on_terminal("joistdenim show t.table 42", &folder);
+    assert_eq!(argument, format!("refused {outside}"));
 }

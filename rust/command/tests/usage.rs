@@ -1,7 +1,7 @@
-//! How the command is called: help, version, wrong usage, and keys that are none.
+//! How the command is called: help, version, wrong usage, and keys that are too long.
 mod support;
 
-use support::{ran, ran_words, Folder, SHORT_T};
+use support::{ran, ran_words, SHORT_T};
 
 const COMMANDS: [&str; 8] = [
     "list", "table", "show", "cut", "insert", "join", "check", "bucket",
@@ -123,27 +123,6 @@ fn standard_input_is_read_once() {
     wrong("show t - 41 -", text, "show --help");
     wrong("join - -", text, "join --help");
     wrong("check - t -", text, "check --help");
-}
-
-#[test]
-fn what_is_no_key_is_wrong_usage() {
-    let folder = Folder::new();
-    let t = folder.with("t.table", support::table(SHORT_T));
-    let digit = "\"4g\" is no key: 'g' is no hexadecimal digit";
-    let half = "\"413\" is no key: a byte has two digits, and the last has one";
-    for (arguments, help) in [
-        ("show T KEY", "show --help"),
-        ("show --tsv T 4131 KEY", "show --help"),
-        ("cut left T KEY", "cut --help"),
-        ("cut right T KEY", "cut --help"),
-        ("insert T KEY", "insert --help"),
-        ("bucket translate KEY 43 T", "bucket --help"),
-        ("bucket translate 41 KEY T", "bucket --help"),
-    ] {
-        let arguments = arguments.replace('T', &t);
-        wrong(&arguments.replace("KEY", "4g"), digit, help);
-        wrong(&arguments.replace("KEY", "413"), half, help);
-    }
 }
 
 #[test]

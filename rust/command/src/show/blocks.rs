@@ -57,20 +57,19 @@ impl Blocks {
         format!("{before}{block}")
     }
 
-    /// A key, the first bytes marked: by colour, or by a line below.
+    /// A key, the first bytes marked by a line below, and by colour where there is any.
     fn key(&self, label: &str, key: &[u8], marked: usize, mark: &str, note: &str) -> Vec<String> {
         let text = self.shown(key);
-        match marked {
-            0 => vec![line(label, &text)],
-            _ if self.colour => {
-                let (head, tail) = text.split_at(2 * marked);
-                vec![line(label, &format!("{mark}{head}{PLAIN}{tail}"))]
-            }
-            _ => {
-                let below = format!("{} {note}", "^".repeat(2 * marked));
-                vec![line(label, &text), line("", &below)]
-            }
+        if marked == 0 {
+            return vec![line(label, &text)];
         }
+        let (head, tail) = text.split_at(2 * marked);
+        let text = match self.colour {
+            true => format!("{mark}{head}{PLAIN}{tail}"),
+            false => format!("{head}{tail}"),
+        };
+        let below = format!("{} {note}", "^".repeat(2 * marked));
+        vec![line(label, &text), line("", &below)]
     }
 
     fn slot(&self, slot: &Slot) -> [String; 3] {

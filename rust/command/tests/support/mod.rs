@@ -1,6 +1,8 @@
 //! How tests run the command: in memory, as a program, or as a line of a shell; and folders for
 //! their files.
 #![allow(dead_code)]
+pub mod shown;
+
 use command::{run, Streams};
 use std::ffi::OsString;
 use std::fs;
@@ -33,6 +35,11 @@ pub fn ran_in(arguments: &str, input: impl AsRef<[u8]>, terminal: bool, colour: 
     ran_words(words.map(OsString::from), input, terminal, colour)
 }
 
+/// With these arguments as they stand, which may have spaces or be empty.
+pub fn ran_each(words: &[&str], input: impl AsRef<[u8]>) -> Ran {
+    ran_words(words.iter().map(OsString::from), input, false, false)
+}
+
 pub fn ran_words(
     words: impl Iterator<Item = OsString>,
     input: impl AsRef<[u8]>,
@@ -48,6 +55,7 @@ pub fn ran_words(
             errors: &mut errors,
             terminal,
             colour,
+            errors_terminal: terminal,
         },
     );
     let errors = String::from_utf8(errors).expect("messages are text");
