@@ -39,7 +39,7 @@ $(archive):
 # The command is linked with the archive that is installed, whatever the environment says. Where cargo finds nothing to
 # do, it leaves the old time, and make would ask it again.
 $(command): export JOISTDENIM_LIB_DIR = $(CURDIR)/target/staticlib
-$(command): $(archive) $(shell find rust/command rust/joistdenim -type f)
+$(command): $(archive) $(shell find rust/command rust/joistdenim rust/Cargo.* -type f)
 	cargo build --manifest-path rust/command/Cargo.toml --target-dir rust/target --offline --locked --release
 	@touch $@
 
