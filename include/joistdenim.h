@@ -103,7 +103,7 @@ static inline const uint8_t *jd_lent(const uint8_t *bytes, size_t length)
     return bytes == NULL && length == 0 ? &nothing : bytes;
 }
 
-/* What jd_lent is, for a destination. */
+/* The pointer to lend as a destination of this length, made as by jd_lent. */
 static inline uint8_t *jd_dest(uint8_t *bytes, size_t length)
 {
     static uint8_t nothing;
