@@ -1,5 +1,6 @@
 /*
- * joistdenim: keys of 0 to 64 bytes in order. Link with libjoistdenim.a.
+ * joistdenim: keys of 0 to 64 bytes in order. Link with libjoistdenim.a, which needs memcpy and
+ * memset and no other function.
  *
  * One rule for every function:
  * - It returns 0, or the number of the first refusal that applies over all arguments, in the
@@ -7,7 +8,8 @@
  * - What it answers goes through the last parameter, a pointer to one number.
  *   A refusal leaves that number, like every lent byte, as it was.
  * - A slice is a pointer and a length in bytes. A slice that is written overlaps nothing else
- *   of the call. An empty slice has any pointer that isn't null.
+ *   of the call. An empty slice has any pointer that isn't null: NULL is forbidden, with length 0
+ *   too. jd_lent and jd_dest make of it a pointer that can be lent.
  * - A result stands at the head of its destination; the bytes after it stay as they were.
  *
  * A record has JD_RECORD_SIZE bytes: a length field of two bytes, high byte first, and
@@ -44,6 +46,7 @@
 #define JD_MIN_PIVOTS 2
 #define JD_MAX_PIVOTS 64
 #define JD_MAX_ENTRIES 512
+#define JD_MAX_LIST 32715 /* the bytes of the longest list of a table */
 
 /* The two marks in a record's length field. */
 #define JD_NO_EDGE 65534
@@ -66,6 +69,46 @@ enum jd_refusal {
     JD_ENTRIES_UNSORTED = 14, /* the keys of a bucket don't rise strictly */
     JD_WRONG_INDEX = 15       /* an index isn't the one that belongs to table and bucket */
 };
+
+/* What a call returned means, told in the words above. */
+static inline const char *jd_refusal_text(uint32_t refusal)
+{
+    switch (refusal) {
+    case 0: return "accepted";
+    case JD_SHAPE: return "a slice isn't the records, entries or pair it should be";
+    case JD_MALFORMED: return "a malformed record or pair, a wrong mark, or a key over 64 bytes";
+    case JD_UNSORTED: return "pivots don't rise strictly";
+    case JD_EMPTY_PREFIX: return "an edge where the range's prefix is empty";
+    case JD_OUT_OF_RANGE: return "a key is outside the table's range";
+    case JD_NO_SUCH_SLOT: return "no such slot, or no key at that place";
+    case JD_NOT_PREFIX: return "an old prefix doesn't begin what it must";
+    case JD_TOO_LONG: return "a produced key or prefix passes 64 bytes";
+    case JD_NOT_BELOW: return "left isn't below right, or the last new pivot below the end";
+    case JD_NO_ROOM: return "a destination is too short";
+    case JD_ALREADY_PIVOT: return "the key is already a pivot";
+    case JD_TOO_MANY_PIVOTS: return "the table would have more than 64 pivots";
+    case JD_NOT_MEETING: return "the tables don't meet: one's last pivot isn't the other's first";
+    case JD_ENTRIES_UNSORTED: return "the keys of a bucket don't rise strictly";
+    case JD_WRONG_INDEX: return "an index isn't the one that belongs to table and bucket";
+    default: return "no refusal of this version of the library";
+    }
+}
+
+/* The pointer to lend with this length: the one given, or for an empty slice that has none, as an
+ * empty std::vector, one that isn't null. NULL with another length stays NULL, which is a mistake
+ * of the caller's that must not be hidden. */
+static inline const uint8_t *jd_lent(const uint8_t *bytes, size_t length)
+{
+    static const uint8_t nothing = 0;
+    return bytes == NULL && length == 0 ? &nothing : bytes;
+}
+
+/* The pointer to lend as a destination of this length, made as by jd_lent. */
+static inline uint8_t *jd_dest(uint8_t *bytes, size_t length)
+{
+    static uint8_t nothing;
+    return bytes == NULL && length == 0 ? &nothing : bytes;
+}
 
 #ifdef __cplusplus
 extern "C" {
@@ -150,10 +193,10 @@ uint32_t jd_translate_bucket_will_fit(const uint8_t *bucket, size_t bucket_len,
 
 /* ---- The list of a table, as text. */
 
-/* Writes the list of the table in the input; answers the text's length, at most 32715. The input
- * is the count of the pivots in two bytes, high byte first, the pivots and the edges. The text is
- * the line "slot left right shared edge" and a line for each slot: its number from 0, its two
- * pivots, the range's prefix and the edge. A tab parts two fields, and 0A ends each line. Keys
+/* Writes the list of the table in the input; answers the text's length, at most JD_MAX_LIST. The
+ * input is the count of the pivots in two bytes, high byte first, the pivots and the edges. The
+ * text is the line "slot left right shared edge" and a line for each slot: its number from 0, its
+ * two pivots, the range's prefix and the edge. A tab parts two fields, and 0A ends each line. Keys
  * are lower-case hexadecimal; max is "max", and the empty key is "-". An edge of length 0 is ".",
  * and no edge is "-".
  * An input with missing or extra bytes, or that is no table, is accepted too: its text is

@@ -10,6 +10,8 @@ archive=$PWD/target/staticlib/libjoistdenim.a
 export JOISTDENIM_LIB_DIR=${archive%/*}
 passed=0
 failed=0
+strict='-Wall -Wextra -Werror'
+sanitized='-fsanitize=address,undefined -fno-sanitize-recover=all'
 
 fail() { # TEXT
     echo "$script: $1"
@@ -26,6 +28,13 @@ build() { # LABEL COMMAND..
     tail -n 20 "$work/out"
     fail "$label: status $status"
     return 1
+}
+
+# A step that is one check: it passes where the command does.
+check() { # LABEL COMMAND..
+    build "$@" || return
+    echo "$script: $1: 1 passed, 0 failed"
+    passed=$((passed + 1))
 }
 
 # A step whose last line is its count.
