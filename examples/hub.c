@@ -57,11 +57,12 @@ static const char *read_key(uint8_t *key, size_t *length)
     static const char hex[] = "0123456789abcdef0123456789ABCDEF";
     const char *fault = NULL;
     size_t digits = 0;
-    int c;
+    int c, ended = 0; /* a CR may come before the end of the line, and nowhere else */
     while ((c = getchar()) != EOF && c != '\n') {
         const char *digit = memchr(hex, c, sizeof hex - 1);
-        if (digit == NULL && c != '\r')
+        if (ended || (digit == NULL && c != '\r'))
             fault = "a key is in hexadecimal, two digits for each byte, as 413107";
+        ended |= c == '\r';
         if (digit == NULL || digits / 2 > JD_MAX_LEN)
             continue;
         key[digits / 2] = (uint8_t)(key[digits / 2] << 4 | (digit - hex) % 16);
