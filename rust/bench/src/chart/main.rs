@@ -6,6 +6,8 @@ mod scale;
 mod style;
 mod svg;
 mod tables;
+#[cfg(test)]
+mod words;
 
 use std::io::{self, Read};
 use std::process::ExitCode;
