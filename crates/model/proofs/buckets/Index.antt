@@ -77,11 +77,11 @@ unfolding entriesRise IsStrictlySorted
 rise-parts [] c h = (refl, h)
 rise-parts (e ∷ a) c h = (rises-first (Element.key (e .key)) a c h, rises-second (Element.key (e .key)) a c h)
 
--- so do the first n
+-- of entries that rise the first n rise
 pub rise-take : (n : ℕ) (b : Bucket) → entriesRise b ≡ true → entriesRise (take n b) ≡ true
 rise-take n b h = rise-parts (take n b) (drop n b) (rw (take-append-drop n b) h) .0
 
--- and what is left without them
+-- of entries that rise those without the first n rise
 pub rise-drop : (n : ℕ) (b : Bucket) → entriesRise b ≡ true → entriesRise (drop n b) ≡ true
 rise-drop n b h = rise-parts (take n b) (drop n b) (rw (take-append-drop n b) h) .1
 

@@ -52,7 +52,7 @@ pub only-apply-sizes : {A : Type 0} (f : Refusal → A) (v : A) (s : PairState) 
 unfolding outcome
 only-apply-sizes f v s k d h j b = rw (h, not-too-long k j, b)
 
--- the same of the state of a pair
+-- where the state is that of a pair that isn't long, the key short and begun by the old prefix, only the sizes may be refused
 pub only-state-sizes : {A : Type 0} (f : Refusal → A) (v : A) (o : Option PrefixSet) (k : Key) (d : List ℕ) → longPair o ≡ false → length k ≤ maxLen
     → Begins o k ≡ true → outcome f (applyCauses (stateOf o) k d) v ≡ outcome f (sizeCauses (ApplyPrefixSet o k) d) v
 unfolding outcome
@@ -88,7 +88,7 @@ module _ (s : PairState) (k : Key) (d : List ℕ) (n : ℕ) (h : applyAnswer s k
   begun : Begins (pairOf s) k ≡ true
   begun = not-false (Begins (pairOf s) k) (none-here (not (Begins (pairOf s) k)) NotPrefix _ (none-later (notPair s || tooLong k) Malformed _ no-cause))
 
-  -- so has its image
+  -- the key's image has at most 64 bytes
   image-short : length (ApplyPrefixSet (pairOf s) k) ≤ maxLen
   image-short =
       ltb-false maxLen (length (ApplyPrefixSet (pairOf s) k))

@@ -124,7 +124,7 @@ changed-bytes (then-inserted c k d n g a) b = insert-leaves-bytes _ _ k d n _ _ 
 in-turn : (p e q f p′ e′ : List ℕ) (j : Key) → TranslatedAlike p e q f j → TranslatedAlike q f p′ e′ j → TranslatedAlike p e p′ e′ j
 in-turn p e q f p′ e′ j before last x = (last x .0 ∙ before x .0, last x .1 ∙ before x .1)
 
--- and by what they leave each key that it bounds is translated as by the old table, answer and bytes
+-- by what cuts and insertions leave each key that it bounds is translated as by the old table, answer and bytes
 pub changed-preserved : {p e p′ e′ : List ℕ} → Changed p e p′ e′ → Bytes p → (j : Key) → Bytes j → BoundedKey (elements p′) j ≡ true
     → TranslatedAlike p e p′ e′ j
 changed-preserved unchanged b j h v = λ x. (refl, refl)

@@ -79,7 +79,7 @@ module _ {pt : PivotTable} {et : EdgeTable} {k : Key} (q : Insertable pt et k) w
   unfolding InsertPivot
   insert-wf = whole-wf meets
 
-  -- and so are its edges
+  -- the new table's edges are well formed
   pub insert-edges-wf : WFEdges newEdges new ≡ true
   unfolding InsertPivot
   insert-edges-wf = rw insert-edges (whole-edges-wf meets)

@@ -29,7 +29,7 @@ ends-with pt h =
     let n : drop (length pt - 1 + 1) pt ≡ [] = drop-of-length-le pt m in
     rw n at (around pt (length pt - 1) (omega arith))
 
--- and begins with its first
+-- a table begins with its first pivot
 begins-with : (pt : PivotTable) → 1 ≤ length pt → pivotAt pt 0 ∷ drop 1 pt ≡ pt
 begins-with [] h = absurd (omega arith)
 begins-with (p ∷ pt) h = refl
@@ -90,7 +90,7 @@ module _ {pt qt : PivotTable} {et ft : EdgeTable} {k : Key} (j : Joinable pt qt 
   pub join-wf : WFPivots new ≡ true
   join-wf = rw (← whole-is) (whole-wf meets)
 
-  -- and so are its edges
+  -- the joined table's edges are well formed
   pub join-edges-wf : WFEdges newEdges new ≡ true
   unfolding JoinEdges
   join-edges-wf = rw (← whole-is) (whole-edges-wf meets)

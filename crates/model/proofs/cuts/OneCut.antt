@@ -56,7 +56,7 @@ module _ {left : Bool} {k : Key} {p e : List ℕ} (c : Cuttable left k p e) wher
   old-edges : WFEdges (edges e) (elements p) ≡ true
   old-edges = table-edges false false p e (c .table)
 
-  -- so is the cut
+  -- the cut is well formed
   cut-wf : WFPivots pt ≡ true
   cut-wf = split-wf (elements p) k old-wf left (c .here) (c .size)
 

@@ -77,7 +77,7 @@ module _ (pt : PivotTable) (l r : Key) (w : WFPivots pt ≡ true) (h : lt (key l
       ∙ rw (split-right-first pt l w right-accepted, right-is-cut t l right-accepted)
       (cut-cut pt (key l) (lastPivot pt) (key l) (key r) in-right)
 
-  -- and so do the left cut and then the right one
+  -- the left cut and then the right one make the plain cut
   pub left-right : SplitRight (SplitLeft pt r) l ≡ plainCut pt l r
   unfolding plainCut cutTo
   left-right =
@@ -126,7 +126,7 @@ module _ (pt : PivotTable) (l r : Key) (w : WFPivots pt ≡ true) (h : lt (key l
           ∙ rw (split-right-first pt l w right-accepted, right-edges-cut et t n l right-accepted, right-is-cut t l right-accepted)
           (cut-cut-edges (right-spans t l right-accepted) b c (bytes-at pt (NumBuckets pt) b) et (key l) (key r) in-right h c d)
 
-      -- and so are those of the left cut and then the right one
+      -- the edges of the left cut and then the right one are those of the plain cut
       pub left-right-edges : SplitRightEdges (SplitLeftEdges et pt r) (SplitLeft pt r) l ≡ plainCutEdges pt et l r
       unfolding plainCutEdges cutEdgesTo
       left-right-edges =

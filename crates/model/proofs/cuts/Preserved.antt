@@ -77,7 +77,7 @@ module _ (pt : PivotTable) (et : EdgeTable) (k : Key) (w : WFPivots pt ≡ true)
       rw (left-edges-cut et t n k v, left-is-cut t k v)
       (cut-preserved et (left-spans t k v) b (bytes-at pt 0 b) c j d (rw (left-is-cut t k v) at h))
 
-  -- and so does the right cut
+  -- the right cut translates its keys as the table does
   pub split-right-preserved : BoundedKey pt k ≡ true → BoundedKey (SplitRight pt k) j ≡ true
       → TranslateKey (SplitRight pt k) (SplitRightEdges et pt k) j ≡ TranslateKey pt et j
   split-right-preserved v h =

@@ -215,13 +215,13 @@ module _ (pt : PivotTable) (et : EdgeTable) (k : Key) where
 pub no-edges-fit : (pt : PivotTable) (et : EdgeTable) → length et + 1 ≡ length pt → ((i : ℕ) → edgeAt et i ≡ noEdge) → WFEdges et pt ≡ true
 no-edges-fit pt et n f = say-edges et pt (record { count = n; fits = λ i h. rw (f i) })
 
--- and is short
+-- edges none of which is there are short
 none-short : (et : EdgeTable) → ((i : ℕ) → edgeAt et i ≡ noEdge) → all shortEdge et ≡ true
 unfolding all
 none-short [] f = refl
 none-short (x ∷ et) f = rw (f 0) (none-short et (λ i. f (suc i)))
 
--- and so it is in each cut
+-- edges none of which is there are short in each cut
 pub no-edges-short : (left : Bool) (pt : PivotTable) (et : EdgeTable) (k : Key) → ((i : ℕ) → edgeAt et i ≡ noEdge)
     → all shortEdge (SplitEdges left et pt k) ≡ true
 unfolding SplitLeftEdges SplitRightEdges edgeWithin cutEdge all

@@ -172,7 +172,7 @@ module _ (pt : PivotTable) (k : Key) (w : WFPivots pt ≡ true) (h : isPivot pt 
           lte-antisym (key k) (pivotAt pt (Route pt k)) (lte-trans (key k) (pivotAt pt i) (pivotAt pt (Route pt k)) (e .1) s) (route-from pt k w v)
       at i l e (inr m) = absurd (true≢false (sym (e .0) ∙ lt-false (key k) (pivotAt pt i) (route-upper pt k w v i m l)))
 
--- ---- the same by the number of the pivots that are not above the key
+-- ---- the slot of a key by the number of the pivots that are not above it
 
 module _ (pt : PivotTable) (k : Key) (w : WFPivots pt ≡ true) (n : ℕ) (e : n ≡ lastPlace (passes false (key k)) pt) where
   -- where there is none, the key is below the first

@@ -150,7 +150,7 @@ unfolding IsStrictlySorted
 sorted-of [] f = refl
 sorted-of (p ∷ pt) f = rises-of p pt f
 
--- and neither above itself nor above a later one
+-- of pivots that rise none is above itself or above a later one
 pub sorted-lte : (pt : PivotTable) (i j : ℕ) → IsStrictlySorted pt ≡ true → i ≤ j → j < length pt → lte (pivotAt pt i) (pivotAt pt j) ≡ true
 sorted-lte pt i j s h k =
     ⊎-elim (λ e. rw e (lte-refl (pivotAt pt j))) (λ l. lt-lte (pivotAt pt i) (pivotAt pt j) (sorted-at pt i j s l k)) (eq-or-lt-of-le h)

@@ -27,7 +27,7 @@ unfolding all
 sorted-keys p [] s = refl
 sorted-keys p (q ∷ pt) s = rw (below-key p q (sorted-head p q pt s)) (sorted-keys q pt (sorted-tail p (q ∷ pt) s))
 
--- and such a table of two pivots or more, none too long, is well formed
+-- a table of two pivots or more that rise strictly, none too long, is well formed
 pub wf-of : (pt : PivotTable) → IsStrictlySorted pt ≡ true → all shortElement pt ≡ true → 2 ≤ length pt → WFPivots pt ≡ true
 unfolding WFPivots
 wf-of [] s h k = absurd (omega arith)
@@ -236,7 +236,7 @@ pub init-wf : WFPivots InitPivotTable ≡ true
 unfolding WFPivots InitPivotTable IsStrictlySorted risesFrom lte all
 init-wf = refl
 
--- and contains all keys
+-- the first table contains all keys
 pub init-all : ContainsAllKeys InitPivotTable ≡ true
 unfolding ContainsAllKeys WFPivots InitPivotTable IsStrictlySorted risesFrom lte lteKey all
 init-all = refl
@@ -265,7 +265,7 @@ contains-range-bounded pt l r k h f g =
     let a = both (lte (pivotAt pt 0) l) (lte r (lastPivot pt)) h in
     bounded-by pt k (lte-trans (pivotAt pt 0) l (key k) (a .0) f) (lt-trans-lte (key k) r (lastPivot pt) g (a .1))
 
--- and one that bounds every key of at most 64 bytes of a range contains the range
+-- a table that bounds every key of at most 64 bytes of a range contains the range
 module _ (pt : PivotTable) (l : Key) (r : Element) (w : WFPivots pt ≡ true) (s : length l ≤ maxLen) (h : lt (key l) r ≡ true)
     (f : (k : Key) → length k ≤ maxLen → lte (key l) (key k) ≡ true → lt (key k) r ≡ true → BoundedKey pt k ≡ true) where
   left-bounded : (lte (pivotAt pt 0) (key l) ≡ true) × (lt (key l) (lastPivot pt) ≡ true)

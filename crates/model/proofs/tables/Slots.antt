@@ -30,7 +30,7 @@ pub record WellFormed (pt : PivotTable) : Type 0 where
 pub wf-says : (pt : PivotTable) → WFPivots pt ≡ true → WellFormed pt
 wf-says pt w = record { table = record { sorted = wf-sorted pt w; many = wf-count pt w }; short = wf-all-short pt w }
 
--- and WFPivots says no more
+-- WFPivots says no more than a well-formed table does
 pub says-wf : (pt : PivotTable) → WellFormed pt → WFPivots pt ≡ true
 says-wf pt w = wf-of pt (w .table .sorted) (w .short) (w .table .many)
 
