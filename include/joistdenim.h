@@ -1,5 +1,6 @@
 /*
- * joistdenim: keys of 0 to 64 bytes in order. Link with libjoistdenim.a.
+ * joistdenim: keys of 0 to 64 bytes in order. Link with libjoistdenim.a. Of the C library it needs
+ * memcpy and memset, which the compiler calls, and nothing else.
  *
  * One rule for every function:
  * - It returns 0, or the number of the first refusal that applies over all arguments, in the
