@@ -1,6 +1,5 @@
 /*
- * joistdenim: keys of 0 to 64 bytes in order. Link with libjoistdenim.a. Of the C library it needs
- * memcpy and memset, which the compiler calls, and nothing else.
+ * joistdenim: keys of 0 to 64 bytes in order. Link with libjoistdenim.a.
  *
  * One rule for every function:
  * - It returns 0, or the number of the first refusal that applies over all arguments, in the
@@ -34,8 +33,8 @@
 /* The version. A new call raises the minor; a changed signature, answer or format the major.
  * CHANGELOG.md says what a caller must do. */
 #define JD_VERSION_MAJOR 3
-#define JD_VERSION_MINOR 1
-#define JD_VERSION_PATCH 1
+#define JD_VERSION_MINOR 2
+#define JD_VERSION_PATCH 0
 
 #define JD_MAX_LEN 64
 #define JD_RECORD_SIZE 66

@@ -53,9 +53,8 @@ uint32_t jd_cut_index_left(const uint8_t *pivots, size_t pivots_len,
 
 /* Cuts off what lies below the key: writes the entries not below it, and the index that they have
  * by the table that jd_split_right makes, of the key and the pivots above it; its first place is 0.
- * Answers the total written, and needs JD_ENTRY_SIZE bytes for each of these entries and
- * JD_PLACE_SIZE for each of these pivots. The key is not below the first pivot, and is below the
- * last. Refuses as jd_cut_index_left does. */
+ * Answers and needs the same. The key is not below the first pivot and below the last. Refuses as
+ * jd_cut_index_left does. */
 uint32_t jd_cut_index_right(const uint8_t *pivots, size_t pivots_len,
                             const uint8_t *bucket, size_t bucket_len,
                             const uint8_t *index, size_t index_len,
