@@ -117,7 +117,7 @@ module _ (left : Bool) (p e : List ℕ) (k : Key) (h : first (edgeSlotCauses p e
   pub cut-inside : inside left (elements p) k ≡ true
   cut-inside = not-false (inside left (elements p) k) (none-here _ OutOfRange [] (none-after (tableCauses false (tooLong k) p e) _ h))
 
-  -- and has at most 64 bytes
+  -- the key has at most 64 bytes
   pub cut-key : length k ≤ maxLen
   cut-key = wrong-key false p e k cut-table
 
@@ -143,7 +143,7 @@ module _ (left : Bool) (p e : List ℕ) (k : Key) (h : first (edgeSlotCauses p e
   pub cut-slot : cutoff left (elements p) k + 1 < length p / recordSize
   cut-slot = rw (← length-elements p) (slot .slot)
 
-  -- and its edge
+  -- the slot's edge is in the table
   pub cut-slot-edge : cutoff left (elements p) k < length e / recordSize
   cut-slot-edge = omega (arith, cut-slot, cut-edges-less)
 
@@ -206,7 +206,7 @@ module _ (left : Bool) (p e : List ℕ) (k : Key) (h : first (edgeSlotCauses p e
   pub cut-short : all shortEdge (cutEdges left p e k) ≡ shortEdge (cutSlotEdge left (elements p) (edges e) k)
   cut-short = rw (split-edges-list left (elements p) (edges e) k) (cut-all shortEdge left _ (edges e) _ edges-short)
 
-  -- and no pivot is: the key is short too
+  -- no pivot of the cut is long: the key is short too
   pub cut-pivots-short : all shortElement (cutPivots left p k) ≡ true
   cut-pivots-short =
       rw (split-list left (elements p) k) (cut-all shortElement left _ (elements p) (key k) (wf-all-short (elements p) wf) ∙ le-leb (length k) maxLen cut-key)

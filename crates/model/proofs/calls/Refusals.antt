@@ -176,7 +176,7 @@ module _ (cs : List Cause) (n : ℕ) (a : Answer) (e : a ≡ answer cs n) where
           let p = refused-by answers.Refused (answers.Value n) (answers.Refused r) cs r f refl in
           let z : _≡_ {A = ℕ} 0 1 = cc in absurd (omega arith)
 
-  -- and which value it is
+  -- a value that is answered is the value of the call
   pub value-is : (m : ℕ) → a ≡ answers.Value m → m ≡ n
   value-is m h = let p = passed answers.Refused (answers.Value n) (answers.Value n) cs (accepted m h) refl in cc
 
@@ -205,7 +205,7 @@ module _ (cs : List Cause) (n : ℕ) (a : Answer) (e : a ≡ answer cs n) where
     pub call-passed : (m : ℕ) → a ≡ answers.Value m → x ≡ v → x ≡ outcome f cs v
     call-passed m h q = passed f v x cs (accepted m h) q
 
-    -- or the causes that follow
+    -- an inner call that is accepted leaves the causes that follow
     pub call-passed-first : (ds : List Cause) (m : ℕ) → a ≡ answers.Value m → x ≡ outcome f ds v → x ≡ outcome f (cs ++ ds) v
     call-passed-first ds m h q = after f v x cs ds (accepted m h) q
 

@@ -154,7 +154,7 @@ module _ (shape wrong : Bool) (p : List ℕ) (h : first (pivotCauses shape wrong
   pub causes-least : 2 ≤ length (elements p)
   causes-least = let c = count in rw (length-elements p) (omega arith)
 
-  -- and at most 64
+  -- there are at most 64 pivots
   pub causes-most : length (elements p) ≤ maxPivots
   causes-most = let c = count in rw (length-elements p) (omega arith)
 

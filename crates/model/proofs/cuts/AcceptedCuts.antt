@@ -81,7 +81,7 @@ module _ (left : Bool) (k : Key) (d : Dests) (p e : List ℕ) (n : ℕ) (p′ e�
     pub cut-wrote-elements : elements p′ ≡ Split left (elements p) k
     cut-wrote-elements = rw cut-wrote-pivots (pivots-back was-cuttable)
 
-    -- and their count is the number answered
+    -- the count of the pivots left is the number answered
     pub cut-wrote-count : n ≡ length (elements p′)
     cut-wrote-count = let w = was-written in rw cut-wrote-elements cc
 
@@ -102,7 +102,7 @@ module _ (left : Bool) (k : Key) (d : Dests) (p e : List ℕ) (n : ℕ) (p′ e�
         (bytes-encodeAll (Split left (elements p) k) (wf-all-short _ w)
         (split-bytes (elements p) k was-wf (was-cuttable .bytes) g left (was-cuttable .here)))
 
-    -- and by it each key that it bounds is translated as by the uncut table, answer and bytes
+    -- by what a cut leaves each key that it bounds is translated as by the uncut table, answer and bytes
     pub cut-preserved-bytes : (j : Key) → Bytes j → BoundedKey (elements p′) j ≡ true → TranslatedAlike p e p′ e′ j
     cut-preserved-bytes j h v = rw (cut-wrote-pivots, cut-wrote-edges) (cut-alike was-cuttable was-short j h (rw cut-wrote-elements at v))
 

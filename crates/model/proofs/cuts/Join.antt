@@ -121,7 +121,7 @@ module _ {pt qt : PivotTable} {et ft : EdgeTable} {k : Key} (j : Joinable pt qt 
   pub join-second-bounded : (i : Key) → BoundedKey qt i ≡ (BoundedKey new i && lte (key k) (key i))
   join-second-bounded i = ap (λ (t : PivotTable). BoundedKey t i) (sym (join-split false)) ∙ split-right-bounded new k join-wf (join-inside false) i
 
-  -- and both are translated as there
+  -- by the joined table a key of either half is translated as by that half
   pub join-preserved : BytesT pt → BytesT qt → Bytes k → (left : Bool) (i : Key) → Bytes i → BoundedKey (cond left pt qt) i ≡ true
       → TranslateKey new newEdges i ≡ TranslateKey (cond left pt qt) (cond left et ft) i
   join-preserved b c d left i h v =

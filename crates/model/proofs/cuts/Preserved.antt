@@ -39,7 +39,7 @@ module _ (pt : PivotTable) (et : EdgeTable) (k : Key) (a : PrefixSet) where
   unfolding Translate
   translate-edge e = pair-is _ _ a e .1
 
-  -- and its prefix begins the key
+  -- the prefix of a key's pair begins the key
   pub translate-begins : WFPivots pt ≡ true → BoundedKey pt k ≡ true → Bytes k → Translate pt et k ≡ some a → IsPrefix (a .prefix) k ≡ true
   unfolding Translate
   translate-begins w h b e = rw (pair-is _ _ a e .0) (begins _ _ k b (route-from pt k w h) (route-below pt k w h))

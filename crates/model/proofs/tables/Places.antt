@@ -79,7 +79,7 @@ module _ {A : Type 0} (test : A → Bool) (xs : List A) (d : A) where
   pub place-after : (i : ℕ) → lastPlace test xs ≤ i → i < length xs → test (getD xs i d) ≡ false
   place-after = ends test xs d .after
 
-  -- and it is the only such place
+  -- the last place that passes is the only one that passes with none after it passing
   pub place-is : (n : ℕ) → n ≤ length xs → (0 < n → test (getD xs (n - 1) d) ≡ true)
       → ((i : ℕ) → n ≤ i → i < length xs → test (getD xs i d) ≡ false) → lastPlace test xs ≡ n
   place-is n h f g =

@@ -129,7 +129,7 @@ module _ (pt : PivotTable) (k : Key) (w : WFPivots pt ≡ true) where
     pub route-below : lt (key k) (pivotAt pt (Route pt k + 1)) ≡ true
     route-below = let h = route-inside in route-upper (Route pt k + 1) (omega arith) (omega arith)
 
-    -- so the key is in the slot's range
+    -- a bounded key is in the range of the slot that it is routed to
     pub route-between : InBetween (pivotAt pt (Route pt k)) (pivotAt pt (Route pt k + 1)) k ≡ true
     route-between = rw (route-from, lt-false (key k) (pivotAt pt (Route pt k + 1)) route-below)
 
@@ -141,7 +141,7 @@ module _ (pt : PivotTable) (k : Key) (w : WFPivots pt ≡ true) where
     pub slot-bounded : BoundedKey pt k ≡ true
     slot-bounded = bounded-within pt k ∙ slot-within false (key k) pt w i h f above
 
-    -- and the slot is its route
+    -- a key in a slot's range has the slot as its route
     pub slot-is-route : i ≡ Route pt k
     unfolding Route LargestLte
     slot-is-route = let e = slot-place false (key k) pt w i h f above in omega arith
@@ -199,7 +199,7 @@ module _ (pt : PivotTable) (k : Key) (w : WFPivots pt ≡ true) where
     pub cutoff-left-valid : ValidLeftCutOffKey pt k ≡ true
     cutoff-left-valid = valid-within pt k ∙ slot-within true (key k) pt w i h f (ap not g)
 
-    -- and the slot is its left cut-off
+    -- a key above a slot's left pivot and not above its right one has the slot as its left cut-off
     pub cutoff-left-is : i ≡ CutoffForLeft pt k
     unfolding CutoffForLeft LargestLt
     cutoff-left-is = let e = slot-place true (key k) pt w i h f (ap not g) in omega arith
@@ -227,7 +227,7 @@ module _ (pt : PivotTable) (i : ℕ) (w : WFPivots pt ≡ true) (h : i < NumBuck
   pub pivot-bounded : BoundedKey pt (GetKey pt i) ≡ true
   pivot-bounded = slot-bounded pt (GetKey pt i) w i h from next
 
-  -- and its route is the slot on its right
+  -- the route of a pivot but the last is the slot on its right
   pub route-of-pivot : Route pt (GetKey pt i) ≡ i
   route-of-pivot = sym (slot-is-route pt (GetKey pt i) w i h from next)
 
