@@ -19,7 +19,7 @@ extern "C" {
  * answer. Refuses JD_SHAPE, JD_MALFORMED, JD_UNSORTED. */
 uint32_t jd_wf_pivots(const uint8_t *pivots, size_t pivots_len);
 
-/* Whether pivots and edges are well formed, told in the same way.
+/* Whether pivots and edges are well formed: 0, which is yes, or the refusal.
  * Refuses JD_SHAPE, JD_MALFORMED, JD_UNSORTED, JD_EMPTY_PREFIX. */
 uint32_t jd_wf_edges(const uint8_t *pivots, size_t pivots_len,
                      const uint8_t *edges, size_t edges_len);

@@ -27,7 +27,7 @@ static void refuses(const char *name, pair first, pair second, uint32_t wanted)
     joins(name, first, second, no_room, wanted, nothing);
 }
 
-/* The same of two tables in either order. */
+/* A refusal of two tables in either order, with room and without. */
 static void either(const char *name, pair one, pair other, uint32_t wanted)
 {
     refuses(name, one, other, wanted);

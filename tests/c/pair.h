@@ -44,7 +44,7 @@ static inline slice pair_with(slice pair, size_t place, unsigned byte)
     return (slice){p, JD_PAIR_SIZE};
 }
 
-/* The same pair with other bytes wherever nothing is looked at. */
+/* A pair with other bytes wherever nothing is looked at. */
 static inline slice rubbish(slice pair)
 {
     uint8_t *p = next_pair(pair);

@@ -19,7 +19,7 @@ pub length-entryBytes : (l : List ℕ) → length (entryBytes l) ≡ length l / 
 unfolding entryBytes
 length-entryBytes l = length-pieces entrySize (length l / entrySize) l
 
--- and so there are of entries
+-- there are as many entries as their size goes into the bytes
 pub length-entries : (l : List ℕ) → length (entries l) ≡ length l / entrySize
 unfolding entries
 length-entries l = length-map (entryBytes l) entryOf ∙ length-entryBytes l

@@ -42,7 +42,7 @@ over-zeros k l n h =
     let m : length k ≤ length (zeros n) = omega arith in
     rw (drop-append-le (length k) (zeros n) l m, drop-zeros (length k) n h, append-assoc)
 
--- and after two bytes stays so
+-- zeros behind two bytes take a key as zeros alone do
 after-two : (x y n : ℕ) (k l v w : List ℕ) → length k ≤ n → v ≡ x ∷ y ∷ (zeros n ++ l) → w ≡ over k (drop 2 v)
     → take 2 v ++ w ≡ x ∷ y ∷ ((k ++ zeros (n - length k)) ++ l)
 after-two x y n k l v w h e g = rw (g, e) (ap (λ (t : List ℕ). x ∷ y ∷ t) (over-zeros k l n h))

@@ -26,7 +26,7 @@ Good l p q = first (renameCauses l p q) ≡ none
 unfoldable pub keptOf : List ℕ → Key → Key → Bucket
 keptOf e p q = TranslateBucket (entryOf e ∷ []) p q
 
--- and its bytes
+-- the bytes of what one entry leaves
 abbrev pub keptBytes : List ℕ → Key → Key → List ℕ
 keptBytes e p q = encodeBucket (keptOf e p q)
 

@@ -32,7 +32,7 @@ ends f v [] b r ds h = rw h
 ends f v ((true ⇒ s) ∷ cs) b r ds h = refl
 ends f v ((false ⇒ s) ∷ cs) b r ds h = ends f v cs b r ds h
 
--- so the call answers it, or one before it
+-- a call with a cause that applies answers it, or one before it
 pub refuses-at : {A : Type 0} (f : Refusal → A) (v : A) (cs : List Cause) (n : ℕ) (b : Bool) (r : Refusal) (ds : List Cause) → drop n cs ≡ (b ⇒ r) ∷ ds → b ≡ true
     → RefusesAt f cs n r (outcome f cs v)
 refuses-at f v cs n b r ds e h =
@@ -94,7 +94,7 @@ pub pivots-refused : (shape wrong : Bool) (p : List ℕ) → WFPivots (elements 
 unfolding pivotCauses
 pivots-refused shape wrong p = clause-refused 3 (pivotCauses shape wrong p) (WFPivots (elements p)) refl (causes-wf shape wrong p)
 
--- the same where edges are lent too
+-- `WFPivots(pt)`, where edges are lent too
 pub table-pivots-refused : (shape wrong : Bool) (p e : List ℕ) → WFPivots (elements p) ≡ false → Refused 3 (tableCauses shape wrong p e)
 unfolding tableCauses
 table-pivots-refused shape wrong p e h = more-refused 3 (pivotCauses (shape || notEdgeCount p e) (wrong || not (edgesRead (records e))) p) _ (pivots-refused _ _ p h)

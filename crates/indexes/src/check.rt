@@ -91,7 +91,7 @@ pub fn check_given(pivots: &[u8], bucket: &[u8], index: &[u8], wrong: bool, outs
     Answer::Value(bucket.len() / ENTRY_SIZE)
 }
 
-// The same causes with a key, which the caller says is outside or not; else the number of entries below it.
+// The causes of `check_given` with a key, which the caller says is outside or not; else the number of entries below it.
 pub fn check_side(pivots: &[u8], bucket: &[u8], index: &[u8], k: &[u8], outside: bool) -> Answer
     ensures { λ r. ⌜ r ≡ answer (givenCauses (tooLong (now (k .entry))) outside (now (pivots .entry)) (now (bucket .entry)) (now (index .entry))) (length (entriesBelow (key (now (k .entry))) (entries (now (bucket .entry))))) ⌝ }
 {

@@ -23,7 +23,7 @@ cmp-fits : (a b : Element) → SFits w64 (cmp a b)
 unfolding cmp
 cmp-fits a b = sign-fits (lt a b) (lt b a)
 
--- so an order that is passed on is kept
+-- an order that is passed on as a number of the machine's is kept
 pub passed-on : (a b : Element) (z : ℤ) → z ≡ cmp a b → toZ w64 (ofZ w64 z) ≡ cmp a b
 passed-on a b z e = rw e (toZ-ofZ (cmp-fits a b))
 

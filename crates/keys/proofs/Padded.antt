@@ -82,7 +82,7 @@ is-more x y h = rw (le-ltb x y (omega arith), lt-ltb y x h)
 pub is-same : (x y : ℕ) → y ≤ x → x ≤ y → pos 0 ≡ ordered x y
 is-same x y h k = rw (le-ltb x y h, le-ltb y x k)
 
--- the same by the other test
+-- not at most is below
 other-test : (x y : ℕ) → not (leb y x) ≡ ltb x y
 other-test x y = go (leb y x) refl
   where
@@ -90,7 +90,7 @@ other-test x y = go (leb y x) refl
     go true e = sym (le-ltb x y (leb-true y x e))
     go false e = sym (lt-ltb x y (leb-false y x e))
 
--- and a number of the machine's
+-- the order of two numbers is kept as a number of the machine's
 ordered-fits : (x y : ℕ) (z : ℤ) → z ≡ ordered x y → toZ w64 (ofZ w64 z) ≡ ordered x y
 ordered-fits x y z e = rw e (toZ-ofZ (sign-fits (ltb x y) (ltb y x)))
 

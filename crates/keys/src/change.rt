@@ -31,8 +31,8 @@ fn begins_with(key: &[u8], p: &[u8], by_words: bool) -> bool
     scan::is_prefix(p, key)
 }
 
-// The causes of a change of prefix, by the room for the changed key; else its length. Apart from the writing: what follows
-// so many tests in one function the compiler takes for rare, and calls instead of putting it in place.
+// The causes of a change of prefix, by the room for the changed key; else its length. Apart from the writing, since the
+// compiler takes what follows so many tests in one function for rare, and calls it instead of putting it in place.
 fn changed(key: &[u8], old: &[u8], new: &[u8], room: usize, by_words: bool) -> Answer
     ensures { λ r. ⌜ r ≡ answer (changedCauses (now (key .entry)) (now (old .entry)) (now (new .entry)) room) (length (changePrefix (now (old .entry)) (now (new .entry)) (now (key .entry)))) ⌝ }
 {
@@ -74,8 +74,8 @@ pub fn change_prefix(key: &[u8], old: &[u8], new: &[u8], dest: &mut [u8]) -> Ans
     Answer::Value(n)
 }
 
-// The same, smaller and by single bytes in the end: for calls that change a prefix among other things, where the compiler
-// puts it in place.
+// A smaller change of prefix, by single bytes in the end: for calls that change a prefix among other things, where the
+// compiler puts it in place.
 pub fn change_prefix_small(key: &[u8], old: &[u8], new: &[u8], dest: &mut [u8]) -> Answer
     ensures answered { λ r. ⌜ r ≡ changePrefixAnswer (now (key .entry)) (now (old .entry)) (now (new .entry)) (now (dest .entry)) ⌝ }
     ensures written { λ r. ⌜ now (dest .exit) ≡ changePrefixLeaves (now (key .entry)) (now (old .entry)) (now (new .entry)) (now (dest .entry)) ⌝ }

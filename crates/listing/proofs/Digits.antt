@@ -30,7 +30,7 @@ first-digit (b ∷ k) (suc j) h =
     let e : suc j * 2 ≡ suc (suc (j * 2)) = omega arith in
     rw e (first-digit k j (omega arith))
 
--- and its second digit after that
+-- the second digit of a byte stands at the next place
 second-digit : (k : Key) (j : ℕ) → j < length k → getD (hex k) (suc (j * 2)) 0 ≡ digit (getD k j 0 % 16)
 unfolding hex
 second-digit [] j h = absurd (omega arith)

@@ -90,7 +90,7 @@ fn key_text(k: &[u8], empty: u8, dest: &mut [u8]) -> usize
     hex_text(k, dest)
 }
 
-// The same, and the byte that ends its field.
+// A key, or a mark in place of the empty one, and the byte that ends its field.
 fn key_field(k: &[u8], empty: u8, end: u8, dest: &mut [u8]) -> usize
     requires { ⌜ length (now k) ≤ 64 ⌝ }
     ensures length { λ r. ⌜ (r ≡ length (field (hexOr empty (now (k .entry))) end)) × (r ≤ 129) ⌝ }

@@ -117,7 +117,7 @@ pub translation-of-abc : (TranslateIndex pivotsAce bucketAbc (0x62 ∷ []) (0x78
 unfolding outcome over paired pivotCauses notPivotCount pivotsRead records pieces elements encodeAll encode recordOf joined reading fieldReading lengthField allZero element keyBytes IsStrictlySorted risesFrom lte lteKey all bucketCauses notEntryCount entriesRead entryBytes entries entryOf encodeBucket encodeEntry entriesRise BoundedKey entriesInside entriesCauses givenCauses only entriesBelow Index encodePlace encodeIndex IsPrefix neededBytes changePrefix TranslateBucket TranslateIndex
 translation-of-abc = (refl, refl, refl, refl, refl, refl, refl, refl, refl, refl)
 
--- of pivots and bucket the smallest number: 1 of the bucket comes before 2 of the pivots and theirs before its 2, which comes before their 3; then come 14, 5 and 15; equal entries don't rise, and the last pivot is outside
+-- Of pivots and a bucket the first refusal is told: 1 of the bucket before 2 of the pivots; 1 of the pivots before 2 of the bucket, and that before 3 of the pivots. Then come 14 (two equal entries don't rise), 5 (an entry at the last pivot is outside) and 15
 abbrev pub pivotsDown : PivotTable
 pivotsDown = key (0x63 ∷ []) ∷ key (0x61 ∷ []) ∷ []
 
@@ -132,7 +132,7 @@ pub first-of-check : (checksOf (max ∷ key [] ∷ []) (0 ∷ []) [] ≡ Refused
 unfolding outcome paired pivotCauses notPivotCount pivotsRead records pieces elements encodeAll encode recordOf joined reading fieldReading lengthField allZero element keyBytes IsStrictlySorted risesFrom lte lteKey all bucketCauses notEntryCount entriesRead entryBytes entries entryOf encodeBucket encodeEntry entriesRise BoundedKey entriesInside entriesCauses givenCauses only entriesBelow Index encodePlace encodeIndex IsPrefix
 first-of-check = (refl, refl, refl, refl, refl, refl, refl, refl)
 
--- a cut's key over 64 bytes comes behind 1 of the bucket and before 3, one outside the table behind 14 and before 15; 15 comes before 10, and of a translation before 8; 5 of an entry before 10 of what is built
+-- The first refusal of a cut: 1 of the bucket comes before a key over 64 bytes, and that before 3; 14 comes before a key outside the table, and that before 15, which comes before 10. Of a translation 15 comes before 8, and where an index is built 5 of an entry comes before 10
 abbrev pub cutsOf : PivotTable → List ℕ → Key → Answer
 cutsOf pt l k = cutIndexAnswer false (encodeAll pt) l [] k [] []
 

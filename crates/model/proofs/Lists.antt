@@ -156,7 +156,7 @@ module _ {A : Type 0} (test : A → Bool) where
   all-inside (x ∷ xs) zero d l h = both (test x) (all test xs) h .0
   all-inside (x ∷ xs) (suc i) d l h = all-inside xs i d (omega arith) (both (test x) (all test xs) h .1)
 
-  -- and all do where each place inside passes
+  -- all pass where each place inside passes
   pub inside-all : (xs : List A) (d : A) → ((i : ℕ) → i < length xs → test (getD xs i d) ≡ true) → all test xs ≡ true
   unfolding all
   inside-all [] d f = refl

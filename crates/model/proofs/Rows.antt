@@ -52,7 +52,7 @@ pub four-before-five : translateKeyAnswer (encodeAll (key (0x41 ∷ []) ∷ key 
 unfolding outcome tableCauses pivotCauses notPivotCount notEdgeCount pivotsRead edgesRead records pieces elements edges encodeAll encodeEdges encode encodeEdge recordOf joined reading fieldReading lengthField allZero element edgeOf keyBytes IsStrictlySorted risesFrom lte lteKey all WFEdges edgesFit PivotLcp lcp lcpright
 four-before-five = refl
 
--- FORMAT's bucket of three entries: where two are kept a destination of 139 bytes is 10 and one of 140 is taken, where none is one of 0 bytes is; 8 comes before 10
+-- Three entries, as in FORMAT.md, of which a change of 41 to 43 keeps two: 139 bytes of destination are refused with 10, and 140 are enough. Where a change keeps none, 0 bytes are enough. With a new prefix of 64 bytes and no room, 8 comes before 10
 abbrev pub entryOne : Key → Entry
 entryOne k = record { key = k; number = 0 ∷ 0 ∷ 0 ∷ 1 ∷ [] }
 
@@ -67,7 +67,7 @@ pub room-of-three : (threeRenamed (0x41 ∷ []) (0x43 ∷ []) (zeros 139) ≡ Re
 unfolding outcome bucketCauses notEntryCount entriesRead neededBytes entryBytes entries entryOf pieces encodeBucket encodeEntry joined recordOf reading fieldReading lengthField allZero keyBytes all IsPrefix changePrefix TranslateBucket
 room-of-three = (refl, refl, refl, refl)
 
--- and the question whether they will fit says so; a prefix of 65 bytes it refuses
+-- whether those three entries will fit is told as the call answers it, and a prefix of 65 bytes is refused
 abbrev pub threeFit : Key → Key → ℕ → Decided
 threeFit p q n = willFitAnswer threeEntries p q n
 

@@ -32,7 +32,7 @@ pub record Fitting (s : PairState) : Type 0 where
   pub old : s .oldLength ≤ 64
   pub new : s .newLength ≤ 64
 
--- so it is where a pair is not long
+-- both lengths of the state of a pair that isn't long are at most 64
 of-short : (o : Option PrefixSet) → longPair o ≡ false → Fitting (stateOf o)
 unfolding stateOf stateWith longPair
 of-short none h = record { old = omega arith; new = omega arith }
@@ -42,7 +42,7 @@ of-short (some a) h = go (tooLong (a .prefix)) refl h
     go true i j = absurd (true≢false j)
     go false i j = record { old = ltb-false 64 (length (a .prefix)) i; new = ltb-false 64 (length (a .newPrefix)) j }
 
--- and beside an answer, where a pair that is accepted is not long
+-- beside an answer both lengths are at most 64, where a pair that is accepted is not long
 beside-fits : (cs : List Cause) (o : Option PrefixSet) → (first cs ≡ none → longPair o ≡ false) → Fitting (pairBeside cs o)
 beside-fits cs o h = go (first cs) refl
   where
@@ -73,14 +73,14 @@ edge-pair-short p noEdge h i = refl
 prefix-short : (x : Key) (r : Element) → length x ≤ 64 → length (PivotLcp (key x) r) ≤ 64
 prefix-short x r h = omega (arith, prefix-length (PivotLcp (key x) r) x (prefix-of-left x r))
 
--- so the pair of a key's slot is not long
+-- the pair of a key's slot is not long
 slot-short : (p e : List ℕ) (k : Key) → first (translateCauses p e k) ≡ none → longPair (Translate (elements p) (edges e) k) ≡ false
 unfolding Translate CutoffForRight
 slot-short p e k h =
     edge-pair-short _ _ (rw (cut-left-key false p e k h) (prefix-short _ _ (cut-left-short false p e k h)))
     (rw (cut-old-edge false p e k h) (cut-edge-short false p e k h))
 
--- and fits
+-- both lengths of the pair of a key's slot are at most 64
 pub translate-fits : (p e : List ℕ) (k : Key) → Fitting (translatePair p e k)
 translate-fits p e k = beside-fits (translateCauses p e k) (Translate (elements p) (edges e) k) (slot-short p e k)
 

@@ -86,7 +86,7 @@ placed-outcome [] n d = refl
 placed-outcome ((true ⇒ r) ∷ cs) n d = refl
 placed-outcome ((false ⇒ r) ∷ cs) n d = placed-outcome cs n d
 
--- and the record is written where none of them applies
+-- the record of a pair is written where neither the call's causes nor 10 applies
 placed-leaves : (cs : List Cause) (n : ℕ) (o : Option PrefixSet) (d : List ℕ)
     → placedLeaves (answer cs n) (pairBeside cs o) d ≡ pairLeaves (cs ++ pairRoom d) o d
 unfolding placedLeaves outcome

@@ -72,7 +72,7 @@ as-pair : {A : Type 0} (f : Refusal → A) (v : A) (k p q d : List ℕ) → leng
 unfolding outcome Begins ApplyPrefixSet
 as-pair f v k p q d h i = rw (not-too-long p h, not-too-long q i, or-false (tooLong k), or-false (tooLong k))
 
--- and an absent one applied changes ε to ε
+-- an absent pair applied changes ε to ε
 as-absent : {A : Type 0} (f : Refusal → A) (v : A) (k d : List ℕ)
     → outcome f (changePrefixCauses k (take 0 k) (take 0 k) d) v ≡ outcome f ((tooLong k ⇒ Malformed) ∷ changeCauses none k d) v
 unfolding Begins ApplyPrefixSet IsPrefix changePrefix

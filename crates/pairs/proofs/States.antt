@@ -78,7 +78,7 @@ pub record Short (n m : ℕ) : Type 0 where
   pub old : n ≤ 64
   pub new : m ≤ 64
 
--- so are the lengths of a state that is there and not malformed
+-- the lengths of a state that is there and not malformed are at most 64
 pub lengths : (s : PairState) → notPair s ≡ false → not (s .there) ≡ false → Short (s .oldLength) (s .newLength)
 unfolding notPair
 lengths s f g =
@@ -89,7 +89,7 @@ lengths s f g =
     go true i h = absurd (true≢false h)
     go false i h = record { old = ltb-false 64 (s .oldLength) i; new = ltb-false 64 (s .newLength) h }
 
--- and those of its prefixes
+-- the prefixes of such a state have at most 64 bytes
 pub short-pair : (s : PairState) → notPair s ≡ false → not (s .there) ≡ false
     → Short (length (take (s .oldLength) (s .oldBytes))) (length (take (s .newLength) (s .newBytes)))
 short-pair s f g =

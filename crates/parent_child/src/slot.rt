@@ -29,7 +29,7 @@ fn ask_range(child: &[u8], left: &[u8], right: &[u8]) -> Decided
     Decided::Yes
 }
 
-// The same of two records that stand one after the other.
+// Whether the child holds the range between two records that stand one after the other.
 fn ask_pair(child: &[u8], pair: &[u8]) -> Decided
     requires { ⌜ WFPivots (elements (now child)) ≡ true ⌝ }
     ensures { λ r. ⌜ r ≡ yesOrNo (ContainsRange (elements (now (child .entry))) (element (recordAt (now (pair .entry)) 0)) (element (recordAt (now (pair .entry)) 1))) ⌝ }

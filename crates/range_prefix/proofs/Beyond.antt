@@ -131,7 +131,7 @@ module _ (l r : Key) (h : length l ≡ 0 → ⊥) (k : length r ≡ 0 → ⊥) w
     pub one-next : (t : Bool) → length r ≡ 1 → t ≡ eqb (getD l 0 0 + 1) (getD r 0 0) → t ≡ not (isNil (lcp l r))
     one-next t e f = rw (by-first, ne-eqb (getD l 0 0) (getD r 0 0) d, e, ← f) (sym (Bool·not-not t))
 
--- ---- and of what two records stand for
+-- ---- whether what two records stand for has a prefix
 
 -- up to max FF tells
 by-ff : (k : Key) → eqb (getD k 0 0) 255 ≡ not (isNil (lcpright k))

@@ -18,7 +18,7 @@ bytes-copied s d₀ d i n h p q r =
     let e : i ≡ n = omega arith in
     rw (length-take-le n s r, ← e) h
 
--- and so all that has room is
+-- all bytes that have room are there
 pub all-copied : (s d₀ d : List ℕ) (n : ℕ) → n ≡ min (length s) (length d₀) → d ≡ over (take n s) d₀ → d ≡ into s d₀
 unfolding into
 all-copied s d₀ d n e h =

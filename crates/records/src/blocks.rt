@@ -52,7 +52,7 @@ fn copy_blocks(src: &[u8], n: usize, dst: &mut [u8])
     put_block(block_of(&src[last..]), &mut dst[last..]);
 }
 
-// The first word of src, likewise.
+// The first word of src, read into an array as a block is.
 fn word_of(src: &[u8]) -> [u8; 8]
     requires { ⌜ 8 ≤ length (now src) ⌝ }
     ensures { λ r. ⌜ r ≡ take 8 (now (src .entry)) ⌝ }

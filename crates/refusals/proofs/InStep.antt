@@ -61,7 +61,7 @@ first-before r [] n h = refl
 first-before r ((true ⇒ s) ∷ ds) n h = rw (le-ltb (number s) (number r) (leb-true (number r) (number s) (both (leb (number r) (number s)) (rising (number r) ds) h .0)))
 first-before r ((false ⇒ s) ∷ ds) n h = first-before r ds n (both (leb (number r) (number s)) (rising (number r) ds) h .1)
 
--- and so does one whose number is below them, whichever list is first
+-- a refusal whose number is below those of a list comes before the list's, also where the list is the first of the two
 second-before : (s : Refusal) (cs : List Cause) (m : ℕ) → rising (suc (number s)) cs ≡ true → earlier (answer cs m) (Refused s) ≡ Refused s
 unfolding earlier outcome rising
 second-before s [] m h = refl

@@ -80,7 +80,7 @@ module _ (v p q n : List ℕ) (h : Given v p q n) where
   pub given-prefix : length p ≤ 64
   given-prefix = ltb-false 64 (length p) (right .0)
 
-  -- and so has the new one
+  -- the new prefix has at most 64 bytes
   pub given-new-prefix : length q ≤ 64
   given-new-prefix = ltb-false 64 (length q) (right .1)
 

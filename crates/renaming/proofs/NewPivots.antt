@@ -78,11 +78,11 @@ module _ (v p q : List ℕ) (c : Changeable v p q) where
       changed-room : length q + (length k - length p) ≤ 64
       changed-room = rw (← length-change p q k) (leb-true (length (changePrefix p q k)) 64 (rw changed-is at short-here))
 
-      -- so have the new prefix and what the key has beyond the old one
+      -- the new prefix, with what the key has beyond the old one, has at most 64 bytes
       pub key-room : length q + length (take (length k - length p) (drop (length p) k)) ≤ 64
       key-room = rw (rest k (length p), length-drop (length p) k) changed-room
 
-      -- and their record is that of the changed pivot
+      -- the record of the new prefix and that rest is that of the changed pivot
       pub key-made : (d w : List ℕ)
           → w ≡ over (recordOf (length (q ++ take (length k - length p) (drop (length p) k))) (q ++ take (length k - length p) (drop (length p) k))) d
           → w ≡ over (encode (TranslateElement p q (pivotAt (elements v) i))) d

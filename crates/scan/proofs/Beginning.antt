@@ -37,7 +37,7 @@ prefix-word (suc n) (x ∷ a) (y ∷ b) h e =
     let w = both (eqb x y) (IsPrefix a b) e in
     omega (arith, eqb-true x y (w .0), prefix-word n a b (omega arith) (w .1))
 
--- and from a place on it is one too
+-- what is left of a prefix from a place on begins what is left of the key
 prefix-drop : (n : ℕ) (a b : List ℕ) → IsPrefix a b ≡ true → IsPrefix (drop n a) (drop n b) ≡ true
 unfolding IsPrefix
 prefix-drop zero a b e = e

@@ -47,7 +47,7 @@ big-below (suc n) v (x ∷ a) (y ∷ b) h k p q l =
         let w : y ≡ x = omega (arith, ltb-false x y e, ltb-false y x f) in
         rw w (next< (r (rw w at l)))
 
--- and equal numbers have the same
+-- words that are equal numbers have equal bytes
 big-same : (n v : ℕ) (a b : Key) → n ≤ length a → n ≤ length b → Bytes a → Bytes b → bigOf n v a ≡ bigOf n v b → take n a ≡ take n b
 unfolding bigOf
 big-same zero v a b h k p q e = refl

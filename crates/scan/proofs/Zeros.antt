@@ -36,7 +36,7 @@ zeros-word (suc n) (x ∷ a) h =
     let t = both (eqb x 0) (allZero a) h in
     omega (arith, eqb-true x 0 (t .0), zeros-word n a (t .1))
 
--- and are zeros from each place on
+-- zeros are zeros from each place on
 zeros-drop : (n : ℕ) (a : List ℕ) → allZero a ≡ true → allZero (drop n a) ≡ true
 unfolding allZero
 zeros-drop zero a h = h
@@ -109,7 +109,7 @@ word-shift (suc k) n l p =
     let t : (getD l 0 0 + 256 * wordOf (k + n) (drop 1 l)) / 2 ^ 8 ≡ wordOf (k + n) (drop 1 l) = omega arith in
     rw (e, f, ← shr-shr (getD l 0 0 + 256 * wordOf (k + n) (drop 1 l)) 8 (8 * k), t, ← d) (word-shift k n (drop 1 l) (bytes-drop 1 l p))
 
--- so what is left of the last word decides
+-- where what is left of the last word is zero, all bytes from the place on are, and only there
 pub end-cleared : (a : List ℕ) (from x : ℕ) → 8 ≤ length a → length a < from + 8 → from < length a → x ≡ wordOf 8 (drop (length a - 8) a)
     → ((j : ℕ) → Fits w8 (getD a j 0)) → eqb (x / 2 ^ (8 * (from - (length a - 8)))) 0 ≡ allZero (drop from a)
 end-cleared a from x h k l u p =

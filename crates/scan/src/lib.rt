@@ -50,7 +50,7 @@ pub fn common_run(a: &[u8], b: &[u8]) -> usize
     i
 }
 
-// The same by single bytes, for a few of them.
+// The length of the common run, counted by single bytes: for a few of them.
 pub fn count_bytes(a: &[u8], b: &[u8]) -> usize
     ensures { λ r. ⌜ r ≡ length (commonRun (now (a .entry)) (now (b .entry))) ⌝ }
 {
@@ -123,8 +123,8 @@ pub fn is_prefix(p: &[u8], k: &[u8]) -> bool
     common_run(p, k) == p.len()
 }
 
-// The same by words to the end, for a prefix that is tested against many keys or is the call's main work. `is_prefix` is
-// smaller.
+// Whether k begins with p, by words to the end: for a prefix tested against many keys or that is the call's main work.
+// `is_prefix` is smaller.
 pub fn is_prefix_by_words(p: &[u8], k: &[u8]) -> bool
     ensures { λ r. ⌜ r ≡ IsPrefix (now (p .entry)) (now (k .entry)) ⌝ }
 {

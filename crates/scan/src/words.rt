@@ -20,7 +20,7 @@ fn half_at(s: &[u8], at: usize) -> u64
     wide(s[at]) + wide(s[at + 1]) * 256 + wide(s[at + 2]) * 65536 + wide(s[at + 3]) * 16777216
 }
 
-// The eight bytes from a place on, likewise. By halves: of eight bytes in one sum, beside other words, it makes single loads.
+// The eight bytes from a place on as one number, by halves: of one sum of all eight the compiler makes single loads.
 fn word_at(s: &[u8], at: usize) -> u64
     requires { ⌜ at + 8 ≤ length (now s) ⌝ }
     ensures { λ r. ⌜ r ≡ wordOf 8 (drop at (now (s .entry))) ⌝ }
@@ -93,7 +93,7 @@ pub(crate) fn zero_words(a: &[u8], from: usize) -> bool
     word_at(a, end) == 0
 }
 
-// The same for the last bytes of a word: the shift takes off those before them.
+// Whether the bytes from a place in the last word on are zero: the shift takes off those before it.
 pub(crate) fn zero_end(a: &[u8], from: usize) -> bool
     requires { ⌜ (8 ≤ length (now a)) × (length (now a) < from + 8) × (from < length (now a)) ⌝ }
     ensures { λ r. ⌜ r ≡ allZero (drop from (now (a .entry))) ⌝ }
@@ -103,7 +103,7 @@ pub(crate) fn zero_end(a: &[u8], from: usize) -> bool
     word_at(a, start) >> before == 0
 }
 
-// The same a byte at a time.
+// Whether the bytes from a place on are zero, a byte at a time.
 pub(crate) fn zero_bytes(a: &[u8], from: usize) -> bool
     ensures { λ r. ⌜ r ≡ allZero (drop from (now (a .entry))) ⌝ }
 {

@@ -122,7 +122,7 @@ pub fn expect<T: AsRef<OsStr> + fmt::Debug>(
     expect_saying(group, arguments, input, wanted, "")
 }
 
-/// The same, and where it is done it must say this on standard error.
+/// What `expect` asks, and where the command is done it must say this on standard error.
 pub fn expect_saying<T: AsRef<OsStr> + fmt::Debug>(
     group: &mut Group,
     arguments: &[T],

@@ -24,8 +24,8 @@ pub fn old(record: &PairRecord) -> &[u8] {
     &record[OLD_AT..][..usize::from(record[2])]
 }
 
-/// The same pair with other bytes wherever nothing is looked at: past the lengths, and all after
-/// the flag of an absent pair.
+/// A pair with other bytes wherever nothing is looked at: past the lengths, and all after the
+/// flag of an absent pair.
 pub fn rubbish(record: &PairRecord) -> PairRecord {
     let mut rubbish = *record;
     match record[0] {

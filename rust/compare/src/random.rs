@@ -90,7 +90,7 @@ pub fn cases(group: &mut Group, call: &Call, count: usize) {
     }
 }
 
-/// The same with destinations around what is written.
+/// Random slices, with destinations around what is written.
 pub fn around_written(group: &mut Group, call: &Call, count: usize) {
     let mut random = Xorshift::new(SEED);
     for _ in 0..count {

@@ -65,7 +65,7 @@ pub fn into<R>(len: usize, call: impl Fn(&mut [u8]) -> R) -> (R, Vec<u8>) {
     (call(&mut bytes[8..8 + len]), bytes)
 }
 
-/// The same with two destinations.
+/// The result of a call, and what it leaves in two destinations and around them.
 pub fn into_two<R>(
     dests: [usize; 2],
     call: impl Fn(&mut [u8], &mut [u8]) -> R,

@@ -1,5 +1,5 @@
 //! Checks the documents, from the root of the repository: `documents contracts` the table of the source's contracts,
-//! `documents names` the names in code style. A line for each failure, then 'N passed, M failed'; the status is 1
+//! `documents names` the names in code style, and the links. A line for each failure, then 'N passed, M failed'; the status is 1
 //! where something failed.
 mod contracts;
 #[cfg(test)]
@@ -9,6 +9,7 @@ mod evidence;
 mod evidence_tests;
 mod exceptions;
 mod known;
+mod links;
 mod names;
 #[cfg(test)]
 mod names_tests;
@@ -43,7 +44,7 @@ fn main() -> ExitCode {
     };
     let report = match asked.as_str() {
         "contracts" => contracts::check(&repository),
-        "names" => names::check(&repository, EXCEPTIONS),
+        "names" => names::check(&repository, EXCEPTIONS).and(links::check(&repository)),
         _ => {
             eprintln!("documents contracts | names");
             return ExitCode::from(2);

@@ -35,7 +35,8 @@ pub fn check(repository: &Repository, exceptions: &[(&str, &str)]) -> Report {
     report
 }
 
-fn is_document(path: &str) -> bool {
+/// The README, the changelog, and what is written in docs.
+pub fn is_document(path: &str) -> bool {
     let in_docs = path.starts_with("docs/") && !path.starts_with("docs/src/");
     path == "README.md" || path == "CHANGELOG.md" || (in_docs && path.ends_with(".md"))
 }

@@ -19,6 +19,13 @@ impl Report {
         self.failures.extend(told);
     }
 
+    /// Both together.
+    pub fn and(mut self, more: Report) -> Report {
+        self.passed += more.passed;
+        self.failures.extend(more.failures);
+        self
+    }
+
     /// A line for each failure, and the count.
     pub fn print(&self, label: &str) {
         for failure in &self.failures {

@@ -26,7 +26,7 @@ fn into(dest: usize, bucket: &[u8], old: &[u8], new: &[u8]) -> Result<Vec<u8>, R
     result.map(|_| left)
 }
 
-/// The same with room to spare.
+/// A bucket under another prefix, with room to spare.
 fn renamed(bucket: &[u8], old: &[u8], new: &[u8]) -> Result<Vec<u8>, Refusal> {
     into(needed(514), bucket, old, new)
 }

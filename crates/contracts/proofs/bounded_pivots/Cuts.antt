@@ -51,7 +51,7 @@ module _ (pt : PivotTable) (et : EdgeTable) (k : Key) (w : WFPivots pt ≡ true)
         accepted _ _ (cutCauses left (encodeAll pt) (encodeEdges et) k dp de) c ∙ rw b,
       )
 
--- the same without edges: "no edge" in each slot
+-- a cut of pivots without edges, "no edge" in each slot, is accepted and leaves the cut pivots
 module _ (pt : PivotTable) (et : EdgeTable) (k : Key) (w : WFPivots pt ≡ true) (m : length pt ≤ maxPivots) (n : length et + 1 ≡ length pt) (g : (i : ℕ) → edgeAt et i ≡ noEdge)
     (l : length k ≤ maxLen) (left : Bool) (i : inside left pt k ≡ true) (dp de : List ℕ)
     (r : length (Split left pt k) * recordSize ≤ length dp) (t : length (SplitEdges left et pt k) * recordSize ≤ length de) where

@@ -122,7 +122,7 @@ module _ (p l x : List ℕ) (db dx : List ℕ) where
 
   module _ (r : Key) where
     -- requires right.Inv()
-    -- so is that of which the left cut is made
+    -- the bucket of which the left cut is made isn't whole entries, has more than 512, or a record that is no key's
     pub translation-impl-501 : Inv l ≡ false → Refuses answers.Refused 2 (cutIndexAnswer true p l x r db dx)
     translation-impl-501 = bucket-refused (tooLong r) (not (ValidLeftCutOffKey (elements p) r)) p l x _ _
 

@@ -51,7 +51,7 @@ rise-head : (e x : Entry) (b : Bucket) → entriesRise (e ∷ x ∷ b) ≡ true 
 unfolding entriesRise
 rise-head e x b = sorted-head (Element.key (e .key)) (Element.key (x .key)) (map (λ (y : Entry). Element.key (y .key)) b)
 
--- and below each later one
+-- of entries that rise the first is below each later one
 pub rise-first : (e : Entry) (b : Bucket) → entriesRise (e ∷ b) ≡ true → (i : ℕ) (d : Entry) → i < length b → lt (key (e .key)) (key (getD b i d .key)) ≡ true
 rise-first e [] h i d l = absurd (omega arith)
 rise-first e (x ∷ b) h zero d l = rise-head e x b h
@@ -60,7 +60,7 @@ rise-first e (x ∷ b) h (suc i) d l =
     let v = rise-first x b (rise-tail e (x ∷ b) h) i d (omega arith) in
     lte-trans-lt (key (e .key)) (key (x .key)) (key (getD b i d .key)) (lt-lte (key (e .key)) (key (x .key)) u) v
 
--- and each below each later one
+-- of entries that rise each is below each later one
 pub rise-at : (b : Bucket) → entriesRise b ≡ true → (i j : ℕ) (d : Entry) → i < j → j < length b → lt (key (getD b i d .key)) (key (getD b j d .key)) ≡ true
 rise-at [] h i j d k l = absurd (omega arith)
 rise-at (e ∷ b) h zero zero d k l = absurd (omega arith)

@@ -69,7 +69,7 @@ module _ (p q : Key) (i : ℕ) (x : Entry) (b t : Bucket) (xs : List ℕ) (r : K
       others′ zero e l f = h
       others′ (suc j) e l f = r .others j e (omega arith) (λ m n u. f m n (omega arith))
 
--- so it goes entry by entry
+-- a renamed bucket has the entries kept, entry by entry
 kept-from : (p q : Key) (i : ℕ) (b : Bucket) → Kept i b (TranslateBucket b p q) (keptFrom i b p) p q
 unfolding TranslateBucket keptFrom
 kept-from p q i [] =

@@ -136,7 +136,7 @@ module _ (pt : PivotTable) (k : Key) (b : Bucket) (w : WFPivots pt ≡ true) (r 
         slot-between (SplitRight pt k) (entriesFrom (key k) b) right-sorted right-rise (suc i) h
         ∙ rw (right-at table k v i, e, slot-between pt b (wf-sorted pt w) r (c + 1 + i) m) (from-later (pivotAt pt (c + 1 + i)) (pivotAt pt (c + 1 + i + 1)) (key k) b f)
 
-    -- so the list is the cut bucket's part from k on, and the old list after it
+    -- the right cut's list is the cut bucket's part from k on, and the old list after it
     pub slots-right : slotBuckets (SplitRight pt k) (entriesFrom (key k) b)
         ≡ entriesFrom (key k) (slotEntries pt b (CutoffForRight pt k)) ∷ drop (CutoffForRight pt k + 1) (slotBuckets pt b)
     slots-right =
@@ -180,7 +180,7 @@ module _ (pt : PivotTable) (k : Key) (b : Bucket) (w : WFPivots pt ≡ true) (r 
         slot-between (SplitLeft pt k) (entriesBelow (key k) b) left-sorted left-rise c (omega arith)
         ∙ rw (left-at table k v c (omega arith), left-end table k v, slot-between pt b (wf-sorted pt w) r c j) (below-cut (pivotAt pt c) (pivotAt pt (c + 1)) (key k) b (cutoff-left-reaches pt k w v))
 
-    -- so the list is the old one before it, and the cut bucket's part below k
+    -- the left cut's list is the old one before the cut slot, and the cut bucket's part below k
     pub slots-left : slotBuckets (SplitLeft pt k) (entriesBelow (key k) b)
         ≡ take (CutoffForLeft pt k) (slotBuckets pt b) ++ (entriesBelow (key k) (slotEntries pt b (CutoffForLeft pt k)) ∷ [])
     slots-left =

@@ -77,11 +77,11 @@ unfolding entriesRise IsStrictlySorted
 rise-parts [] c h = (refl, h)
 rise-parts (e ∷ a) c h = (rises-first (Element.key (e .key)) a c h, rises-second (Element.key (e .key)) a c h)
 
--- so do the first n
+-- of entries that rise the first n rise
 pub rise-take : (n : ℕ) (b : Bucket) → entriesRise b ≡ true → entriesRise (take n b) ≡ true
 rise-take n b h = rise-parts (take n b) (drop n b) (rw (take-append-drop n b) h) .0
 
--- and what is left without them
+-- of entries that rise those without the first n rise
 pub rise-drop : (n : ℕ) (b : Bucket) → entriesRise b ≡ true → entriesRise (drop n b) ≡ true
 rise-drop n b h = rise-parts (take n b) (drop n b) (rw (take-append-drop n b) h) .1
 
@@ -140,7 +140,7 @@ module _ (pt : PivotTable) (b : Bucket) where
   unfolding slotEntries
   slots-rise r i = rise-take (placeAt (Index pt b) (i + 1) - placeAt (Index pt b) i) (drop (placeAt (Index pt b) i) b) (rise-drop (placeAt (Index pt b) i) b r)
 
-  -- and pass each test that all entries pass
+  -- a slot's entries pass each test that all entries pass
   pub slot-all : (test : Entry → Bool) → all test b ≡ true → (i : ℕ) → all test (slotEntries pt b i) ≡ true
   unfolding slotEntries
   slot-all test h i =
@@ -160,7 +160,7 @@ module _ (pt : PivotTable) (b : Bucket) where
     unfolding entriesBelow
     none-first = only-none (isBelow (pivotAt pt 0)) b (λ i d h. rw (ends i d h .0))
 
-    -- and all are below the last
+    -- all entries inside a table are below its last pivot
     pub all-last : entriesBelow (lastPivot pt) b ≡ b
     unfolding entriesBelow
     all-last = only-all (isBelow (lastPivot pt)) b (λ i d h. ends i d h .1)

@@ -29,7 +29,7 @@ pub length-place : (n : ℕ) → aPlace n ≡ true → length (encodePlace n) �
 unfolding encodePlace
 length-place n h = refl
 
--- and reads back
+-- a place reads back
 pub place-encode : (n : ℕ) → aPlace n ≡ true → lengthField (encodePlace n) ≡ n
 unfolding encodePlace lengthField
 place-encode n h = omega arith
@@ -39,7 +39,7 @@ pub length-encodeIndex : (ns : List ℕ) → length (encodeIndex ns) ≡ length 
 unfolding encodeIndex
 length-encodeIndex ns = length-joined placeSize aPlace encodePlace length-place ns (all-places ns)
 
--- and reads back too
+-- an index reads back
 pub places-encodeIndex : (ns : List ℕ) → places (encodeIndex ns) ≡ ns
 unfolding places encodeIndex
 places-encodeIndex ns = read-joined placeSize aPlace encodePlace length-place lengthField place-encode (omega arith) ns (all-places ns)

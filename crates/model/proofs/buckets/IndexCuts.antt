@@ -95,7 +95,7 @@ module _ (n : ℕ) (pt : PivotTable) (b : Bucket) (h : n ≤ length pt) where
   pub index-take : Index (take n pt) b ≡ take n (Index pt b)
   index-take = rw (parts, take-at (Index (take n pt) b) (Index (drop n pt) b) n part-length)
 
-  -- and those that follow them the rest
+  -- the pivots that follow the first n have the places that follow theirs
   pub index-drop : Index (drop n pt) b ≡ drop n (Index pt b)
   index-drop = rw (parts, drop-at (Index (take n pt) b) (Index (drop n pt) b) n part-length)
 
@@ -142,7 +142,7 @@ module _ (pt : PivotTable) (k : Key) (b : Bucket) (w : WFPivots pt ≡ true) whe
             let p = pivotAt pt (CutoffForLeft pt k + 1) in
             omega (arith, below-both (key k) (key k) b, below-both p (key k) b, below-rises (key k) p (cutoff-left-reaches pt k w v) b)
 
-    -- so those of the pivots that stay are the old ones, and it ends with that number
+    -- the left index has the old places of the pivots that stay, and ends with the number of entries below k
     pub left-places : Index (SplitLeft pt k) (entriesBelow (key k) b) ≡ take (CutoffForLeft pt k + 1) (Index pt b) ++ (below ∷ [])
     unfolding SplitLeft
     left-places =
@@ -177,7 +177,7 @@ module _ (pt : PivotTable) (k : Key) (b : Bucket) (w : WFPivots pt ≡ true) whe
             let f : lte p (key k) ≡ true = rw (cutoff-right-is-route pt k) (route-from pt k w v) in
             omega (arith, below-beyond (key k) (key k) b, below-beyond p (key k) b, below-rises p (key k) f b)
 
-    -- so it begins with 0
+    -- the right index begins with 0, and goes on with the old places less the number of entries below k
     pub right-places : Index (SplitRight pt k) (entriesFrom (key k) b) ≡ 0 ∷ map (λ (m : ℕ). m - below) (drop (CutoffForRight pt k + 1) (Index pt b))
     unfolding SplitRight
     right-places =

@@ -22,7 +22,7 @@ below-kept : (x : Element) (b : Bucket) (p q : Key) → entriesRise b ≡ true
     → length (TranslateBucket (entriesBelow x b) p q) ≡ length (TranslateBucket (take (length (entriesBelow x b)) b) p q)
 below-kept x b p q h = ap (λ (a : Bucket). length (TranslateBucket a p q)) (below-take x b h)
 
--- so the translated index has for each place of the old one the number of entries before it that are kept
+-- the translated index has for each place of the old one the number of entries before it that are kept
 pub translated-index : (pt : PivotTable) (b : Bucket) (p q : Key) → entriesRise b ≡ true
     → TranslateIndex pt b p q ≡ map (λ (n : ℕ). length (TranslateBucket (take n b) p q)) (Index pt b)
 unfolding TranslateIndex Index
@@ -43,7 +43,7 @@ translated-step b p q m n h =
     ap (λ (k : ℕ). length (TranslateBucket (take k b) p q)) e
     ∙ rw (take-add m (n - m) b, renamed-append p q (take m b) (take (n - m) (drop m b)), length-append)
 
--- so the translated places rise, weakly
+-- the translated places rise, weakly
 pub translated-rises : (pt : PivotTable) (b : Bucket) (p q : Key) → entriesRise b ≡ true → IsStrictlySorted pt ≡ true → (i j : ℕ) → i ≤ j → j < length pt
     → placeAt (TranslateIndex pt b p q) i ≤ placeAt (TranslateIndex pt b p q) j
 translated-rises pt b p q r s i j h l =

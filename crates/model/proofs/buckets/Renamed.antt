@@ -34,7 +34,7 @@ module _ (p q : Key) where
       go true h = ap (_∷_ (translateEntry p q e)) h
       go false h = h
 
-  -- so it has as many
+  -- the renamed bucket has as many entries as are kept
   pub renamed-count : (b : Bucket) → length (TranslateBucket b p q) ≡ length (kept b p)
   renamed-count b = ap length (renamed-kept b) ∙ length-map (kept b p) (translateEntry p q)
 
@@ -104,7 +104,7 @@ module _ (b : Bucket) (p q : Key) where
       let z : getD (keptFrom 0 b p) m 0 ≡ j = omega arith in
       (m, n, z, wft .translated m e n ∙ ap (λ (x : ℕ). translateEntry p q (getD b x e)) z)
 
-  -- and only once: no two places of the result come from one place
+  -- an entry with the prefix is in the result only once: no two places of the result come from one place
   pub renamed-once : (m n : ℕ) → m < length (TranslateBucket b p q) → n < length (TranslateBucket b p q)
       → getD (keptPlaces b p) m 0 ≡ getD (keptPlaces b p) n 0 → m ≡ n
   renamed-once m n h l e = ⊎-elim less (λ (i : n < m). absurd (omega (arith, wft .rising n m i (omega (arith, wft .count))))) (le-or-lt m n)

@@ -88,7 +88,7 @@ module _ (pt : PivotTable) (b : Bucket) where
           let z : length b - 0 ≡ length b = omega arith in
           from-together 0 (NumBuckets pt) (omega arith) ∙ rw (e, index-first pt b n h, index-last pt b n h, z) (take-all (length b) b (omega arith))
 
-      -- and they begin at the places of the index
+      -- the slots' buckets begin at the places of the index
       pub slots-places : placesFrom 0 (slotBuckets pt b) ≡ Index pt b
       slots-places = rw (index-first pt b n h) at (places-of (Index pt b) (slotBuckets pt b) (omega (arith, slots-count, index-count pt b)) next-place)
 
@@ -148,7 +148,7 @@ module _ (p q : Key) where
           rw (e, slots-at pt b j m, ← add-one, translated-at pt b j (omega arith), translated-at pt b (j + 1) (omega arith), below-next j m, renamed-append p q (entriesBelow (pivotAt pt j) b) (slotEntries pt b j))
           (length-append (TranslateBucket (entriesBelow (pivotAt pt j) b) p q) (TranslateBucket (slotEntries pt b j) p q))
 
-      -- and begin at the places that the translated index has
+      -- the slots' translated buckets begin at the places of the translated index
       pub translated-places : placesFrom 0 (TranslateBuckets (slotBuckets pt b) p q) ≡ TranslateIndex pt b p q
       unfolding TranslateBuckets
       translated-places =

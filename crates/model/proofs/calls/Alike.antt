@@ -42,7 +42,7 @@ alike p e p′ e′ k h h′ b b′ t d =
     let same = slot-first p′ e′ k _ h′ b′ ∙ sym (slot-first p e k _ h b) in
     (rw t (followed _ _ _ _ _ same), rw t (followed _ _ _ _ _ same))
 
--- and by such tables in which it isn't bounded
+-- a key is translated alike, namely refused, by tables without causes 1 to 4 in which it isn't bounded
 pub alike-outside : (p e p′ e′ : List ℕ) (k : Key) → first (tableCauses false false p e) ≡ none → first (tableCauses false false p′ e′) ≡ none
     → BoundedKey (elements p) k ≡ false → BoundedKey (elements p′) k ≡ false → TranslatedAlike p e p′ e′ k
 alike-outside p e p′ e′ k h h′ b b′ d = (both-refused answers.Refused _ _ _ _, both-refused (λ (_ : Refusal). d) _ _ _ _)

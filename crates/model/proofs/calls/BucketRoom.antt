@@ -70,7 +70,7 @@ wholeFull l n = ltb n (length (entries l) * entrySize)
 abbrev wholeCauses : List ℕ → Key → Key → List ℕ → List Cause
 wholeCauses l p q d = renameCauses l p q ++ (bucketLong l p q ⇒ TooLong) ∷ (wholeFull l (length d) ⇒ NoRoom) ∷ []
 
--- and the answer to the question
+-- the answer to the question whether it will fit, by that cause
 abbrev wholeFit : List ℕ → Key → Key → ℕ → Decided
 wholeFit l p q n = decision (renameCauses l p q) (not (bucketLong l p q || wholeFull l n))
 
@@ -88,7 +88,7 @@ last-cause f v [] false false r h n = refl
 last-cause f v ((true ⇒ s) ∷ cs) b c r h n = refl
 last-cause f v ((false ⇒ s) ∷ cs) b c r h n = last-cause f v cs b c r h n
 
--- and a reason for "no" that applies less often changes the answer only where that was no
+-- a reason for "no" that applies less often changes the answer only where that was no
 last-no : (cs : List Cause) (a b c : Bool) → (b ≡ true → c ≡ true) → (decision cs (not (a || c)) ≡ decided.No → ⊥) → decision cs (not (a || b)) ≡ decision cs (not (a || c))
 unfolding outcome
 last-no [] true b c h n = refl

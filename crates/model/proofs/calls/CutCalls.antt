@@ -52,7 +52,7 @@ unfolding SplitLeft SplitRight
 split-list true pt k = refl
 split-list false pt k = refl
 
--- and so are the edges
+-- the edges are cut as such a list
 split-edges-list : (left : Bool) (pt : PivotTable) (et : EdgeTable) (k : Key)
     → SplitEdges left et pt k ≡ cutList left (edgePlace left (cutoff left pt k)) et (cutSlotEdge left pt et k)
 unfolding SplitLeftEdges SplitRightEdges
@@ -93,7 +93,7 @@ side-from : (left : Bool) (pt : PivotTable) (k : Key) → BytesT pt → Bytes k 
 side-from true pt k b c = bytes-at pt (cutoff true pt k) b
 side-from false pt k b c = c
 
--- and so is its right end
+-- the right end of the cut slot's range is of bytes
 side-upto : (left : Bool) (pt : PivotTable) (k : Key) → BytesT pt → Bytes k → BytesE (cutUpto left pt k)
 side-upto true pt k b c = c
 side-upto false pt k b c = bytes-at pt (cutoff false pt k + 1) b
@@ -117,7 +117,7 @@ module _ (left : Bool) (p e : List ℕ) (k : Key) (h : first (edgeSlotCauses p e
   pub cut-inside : inside left (elements p) k ≡ true
   cut-inside = not-false (inside left (elements p) k) (none-here _ OutOfRange [] (none-after (tableCauses false (tooLong k) p e) _ h))
 
-  -- and has at most 64 bytes
+  -- the key has at most 64 bytes
   pub cut-key : length k ≤ maxLen
   cut-key = wrong-key false p e k cut-table
 
@@ -143,7 +143,7 @@ module _ (left : Bool) (p e : List ℕ) (k : Key) (h : first (edgeSlotCauses p e
   pub cut-slot : cutoff left (elements p) k + 1 < length p / recordSize
   cut-slot = rw (← length-elements p) (slot .slot)
 
-  -- and its edge
+  -- the slot's edge is in the table
   pub cut-slot-edge : cutoff left (elements p) k < length e / recordSize
   cut-slot-edge = omega (arith, cut-slot, cut-edges-less)
 
@@ -166,7 +166,7 @@ module _ (left : Bool) (p e : List ℕ) (k : Key) (h : first (edgeSlotCauses p e
   pub cut-right-element : pivotAt (elements p) (cutoff left (elements p) k + 1) ≡ element (recordAt p (cutoff left (elements p) k + 1))
   cut-right-element = element-at p (cutoff left (elements p) k + 1) cut-slot
 
-  -- and so is its edge
+  -- the slot's edge is what its record stands for
   pub cut-old-edge : edgeAt (edges e) (cutoff left (elements p) k) ≡ edgeOf (recordAt e (cutoff left (elements p) k))
   cut-old-edge = edge-at e (cutoff left (elements p) k) cut-slot-edge
 
@@ -177,7 +177,7 @@ module _ (left : Bool) (p e : List ℕ) (k : Key) (h : first (edgeSlotCauses p e
       let w = wf-short (elements p) wf c (omega (arith, slot .slot)) in
       leb-true (length (keyBytes (recordAt p c))) maxLen (rw cut-left-key at w)
 
-  -- and so has the edge
+  -- the slot's edge has at most 64 bytes
   pub cut-edge-short : shortEdge (edgeOf (recordAt e (cutoff left (elements p) k))) ≡ true
   cut-edge-short = rw (← cut-old-edge) (all-at shortEdge (edges e) (cutoff left (elements p) k) noEdge refl edges-short)
 
@@ -198,7 +198,7 @@ module _ (left : Bool) (p e : List ℕ) (k : Key) (h : first (edgeSlotCauses p e
   kept-pivots : cutoff left (elements p) k + 1 ≤ length (elements p)
   kept-pivots = omega (arith, slot .slot)
 
-  -- and so are the edges kept
+  -- the edges kept are in the table
   kept-edges : edgePlace left (cutoff left (elements p) k) ≤ length (edges e)
   kept-edges = omega (arith, place-most left (cutoff left (elements p) k), slot .slot, table-count _ _ p e cut-table)
 
@@ -206,7 +206,7 @@ module _ (left : Bool) (p e : List ℕ) (k : Key) (h : first (edgeSlotCauses p e
   pub cut-short : all shortEdge (cutEdges left p e k) ≡ shortEdge (cutSlotEdge left (elements p) (edges e) k)
   cut-short = rw (split-edges-list left (elements p) (edges e) k) (cut-all shortEdge left _ (edges e) _ edges-short)
 
-  -- and no pivot is: the key is short too
+  -- no pivot of the cut is long: the key is short too
   pub cut-pivots-short : all shortElement (cutPivots left p k) ≡ true
   cut-pivots-short =
       rw (split-list left (elements p) k) (cut-all shortElement left _ (elements p) (key k) (wf-all-short (elements p) wf) ∙ le-leb (length k) maxLen cut-key)

@@ -92,7 +92,7 @@ checked-builds p l x m h d r =
     let z = le-ltb (length d) (length (elements p) * placeSize) (omega arith) in
     rw (check-answers p l x m h) (sym (after answers.Refused _ _ (entriesCauses false false p l) _ (given-entries false false p l x c) (rw z)))
 
--- and leaves it
+-- an index that is accepted is what build leaves
 pub checked-is-built : (p l x : List ℕ) (m : ℕ) → checkIndexAnswer p l x ≡ answers.Value m → (d : List ℕ) → length x ≤ length d → take (length x) (buildIndexLeaves p l d) ≡ x
 checked-is-built p l x m h d r =
     let n = given-length false false p l x (check-none p l x m h) in

@@ -56,7 +56,7 @@ module _ (wrong outside : Bool) (p l : List ℕ) (h : first (entriesCauses wrong
   five : (outside ≡ false) × (not (entriesInside (elements p) (entries l)) ≡ false)
   five = either-fails outside (not (entriesInside (elements p) (entries l))) (none-here _ OutOfRange [] (none-later (not (entriesRise (entries l))) EntriesUnsorted _ others))
 
-  -- and are inside the table, as another argument is
+  -- the entries are inside the table, as another argument is
   pub entries-outside : outside ≡ false
   entries-outside = five .0
 
@@ -90,7 +90,7 @@ module _ (wrong outside : Bool) (p l x : List ℕ) (h : first (givenCauses wrong
   unfolding givenCauses
   given-entries = none-before (entriesCauses wrong outside p l) _ h
 
-  -- and the index is theirs
+  -- the index is that of pivots and bucket
   pub given-index : x ≡ indexBytes p l
   unfolding givenCauses
   given-index =

@@ -45,7 +45,7 @@ module _ (p e : List ℕ) (k : Key) (h : first (newPivotCauses p e k) ≡ none) 
       (tooManyPivots (insertedPivots p k) ⇒ TooManyPivots) ∷ []) ≡ none
   range = none-after (tableCauses false (tooLong k) p e) _ h
 
-  -- so it lies strictly in its slot
+  -- the key lies strictly in its slot
   pub insert-strictly : Strictly (elements p) c k
   insert-strictly =
       new-strictly (elements p) k wf (not-false _ (none-here _ OutOfRange _ range)) (none-here _ AlreadyPivot _ (none-later _ OutOfRange _ range))
@@ -58,7 +58,7 @@ module _ (p e : List ℕ) (k : Key) (h : first (newPivotCauses p e k) ≡ none) 
   pub insert-key : length k ≤ maxLen
   insert-key = wrong-key false p e k insert-table
 
-  -- and both cuts at it have none of the causes 1 to 5
+  -- both cuts at the key have none of the causes 1 to 5
   pub insert-found : (left : Bool) → first (edgeSlotCauses p e k (inside left (elements p) k)) ≡ none
   unfolding outcome
   insert-found left =
@@ -118,7 +118,7 @@ module _ (p e : List ℕ) (k : Key) (h : first (newPivotCauses p e k) ≡ none) 
       let s = table-edges-short _ _ p e insert-table in
       rw (edges-list, all-append shortEdge (take c (edges e)) _, all-parts shortEdge c (edges e) s .0, all-parts shortEdge (c + 1) (edges e) s .1, and-true)
 
-  -- and either makes them long
+  -- a long edge of either half makes the edges long
   pub insert-half-long : (left : Bool) → shortEdge (cutSlotEdge left (elements p) (edges e) k) ≡ false → all shortEdge (insertedEdges p e k) ≡ false
   insert-half-long true f = insert-short ∙ rw f
   insert-half-long false f = insert-short ∙ rw f (and-false (shortEdge leftEdge))

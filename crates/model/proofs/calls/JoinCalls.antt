@@ -70,7 +70,7 @@ module _ (p e q f : List ℕ) (h : first (twoTablesCauses p e q f) ≡ none) whe
       rw (all-append shortElement (elements p) (drop 1 (elements q)), wf-all-short (elements p) (table-wf false false p e first-table))
       (all-parts shortElement 1 (elements q) s .1)
 
-  -- and no edge
+  -- no edge of the joined table is too long
   pub join-edges-short : all shortEdge (joinedEdges e f) ≡ true
   unfolding JoinEdges
   join-edges-short =

@@ -52,7 +52,7 @@ pub only-apply-sizes : {A : Type 0} (f : Refusal → A) (v : A) (s : PairState) 
 unfolding outcome
 only-apply-sizes f v s k d h j b = rw (h, not-too-long k j, b)
 
--- the same of the state of a pair
+-- where the state is that of a pair that isn't long, the key short and begun by the old prefix, only the sizes may be refused
 pub only-state-sizes : {A : Type 0} (f : Refusal → A) (v : A) (o : Option PrefixSet) (k : Key) (d : List ℕ) → longPair o ≡ false → length k ≤ maxLen
     → Begins o k ≡ true → outcome f (applyCauses (stateOf o) k d) v ≡ outcome f (sizeCauses (ApplyPrefixSet o k) d) v
 unfolding outcome
@@ -88,7 +88,7 @@ module _ (s : PairState) (k : Key) (d : List ℕ) (n : ℕ) (h : applyAnswer s k
   begun : Begins (pairOf s) k ≡ true
   begun = not-false (Begins (pairOf s) k) (none-here (not (Begins (pairOf s) k)) NotPrefix _ (none-later (notPair s || tooLong k) Malformed _ no-cause))
 
-  -- so has its image
+  -- the key's image has at most 64 bytes
   image-short : length (ApplyPrefixSet (pairOf s) k) ≤ maxLen
   image-short =
       ltb-false maxLen (length (ApplyPrefixSet (pairOf s) k))
@@ -122,7 +122,7 @@ module _ (s : PairState) (k : Key) (d : List ℕ) (n : ℕ) (h : applyAnswer s k
     pub back-answer : applyAnswer (reversePair s) (take n (applyLeaves s k d)) d′ ≡ answers.Value (length k)
     back-answer = back-sizes answers.Refused (answers.Value _) ∙ ap (λ (x : Key). answers.Value (length x)) reversed-is
 
-    -- and writes the key
+    -- the reversed pair, applied to what was written, writes the key
     pub back-leaves : applyLeaves (reversePair s) (take n (applyLeaves s k d)) d′ ≡ over k d′
     back-leaves = back-sizes (λ (_ : Refusal). d′) (over _ d′) ∙ ap (λ (x : Key). over x d′) reversed-is
 
@@ -168,7 +168,7 @@ module _ (s t : PairState) where
       pub composed-answer : applyAnswer (composePair s t) (take n (applyLeaves t k d)) d′ ≡ applyAnswer s k d′
       composed-answer = same-sizes answers.Refused (answers.Value _) ∙ ap (λ (x : Key). outcome answers.Refused (applyCauses s k d′) (answers.Value (length x))) same-image
 
-      -- and leaves what the first pair leaves
+      -- the composed pair, applied to x, leaves what the first pair leaves of k
       pub composed-leaves : applyLeaves (composePair s t) (take n (applyLeaves t k d)) d′ ≡ applyLeaves s k d′
       composed-leaves = same-sizes (λ (_ : Refusal). d′) (over _ d′) ∙ ap (λ (x : Key). outcome (λ (_ : Refusal). d′) (applyCauses s k d′) (over x d′)) same-image
 
@@ -202,7 +202,7 @@ module _ (s t : PairState) where
           go false true p q e = let w = either-fails (notPair s) (notPair t) p in (w .0, w .1, q)
           go false false p q e = let z : _≡_ {A = ℕ} 0 1 = cc in absurd (omega arith)
 
-      -- so one of them refuses each such key with 8, and no pair of use is lost
+      -- where composing is refused with 8, one of the two pairs refuses each such key with 8, and no pair of use is lost
       pub composed-eight : (d : List ℕ) → length k ≤ maxLen → (applyAnswer s k d ≡ answers.Refused TooLong) ⊎ (applyAnswer t k d ≡ answers.Refused TooLong)
       composed-eight d l = either-holds (tooLong (ApplyPrefixSet (pairOf s) k)) (tooLong (ApplyPrefixSet (pairOf t) k)) long
           (λ w. image-refused s k d (eight .0) l h w) (λ w. image-refused t k d (eight .1) l j w)

@@ -40,6 +40,6 @@ module _ (p : List ℕ) (wf : WFPivots (elements p) ≡ true) (i : ℕ) (h : i +
       let r = element-at p i (omega arith) in
       r ∙ key-element (recordAt p i) (rw r at (wf-keys (elements p) wf i (omega (arith, length-elements p))))
 
-  -- and has at most 64 bytes
+  -- the key of the record of a pivot but the last has at most 64 bytes
   pub key-at-short : length (keyBytes (recordAt p i)) ≤ maxLen
   key-at-short = leb-true _ maxLen (rw key-at at (wf-short (elements p) wf i (omega (arith, length-elements p))))

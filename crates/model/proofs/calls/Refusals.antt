@@ -76,7 +76,7 @@ module _ {A : Type 0} (f : Refusal → A) (v x : A) (cs : List Cause) where
   pub after : (ds : List Cause) → first cs ≡ none → x ≡ outcome f ds v → x ≡ outcome f (cs ++ ds) v
   after ds h e = rw (in-turn f v cs ds, h) e
 
-  -- and so is a whole list
+  -- a whole list none of whose causes applies leaves the value
   pub passed : first cs ≡ none → x ≡ v → x ≡ outcome f cs v
   passed h e = rw (whole f v cs, h) e
 
@@ -85,7 +85,7 @@ pub followed : {A : Type 0} (f : Refusal → A) (v : A) (cs cs′ ds : List Caus
     → outcome f (cs ++ ds) v ≡ outcome f (cs′ ++ ds) v
 followed f v cs cs′ ds h = rw (in-turn f v cs ds, in-turn f v cs′ ds, h)
 
--- and so have lists with the same outcome that follow one
+-- lists with the same outcome have it behind any list
 pub following : {A : Type 0} (f : Refusal → A) (v : A) (cs ds ds′ : List Cause) → outcome f ds v ≡ outcome f ds′ v
     → outcome f (cs ++ ds) v ≡ outcome f (cs ++ ds′) v
 following f v cs ds ds′ h = rw (in-turn f v cs ds, in-turn f v cs ds′, h)
@@ -135,7 +135,7 @@ none-paired (c ∷ cs) [] g h = g
 none-paired ((a ⇒ r) ∷ cs) ((b ⇒ s) ∷ ds) g h =
     rw (none-here a r cs g, none-here b s ds h) (none-paired cs ds (none-later a r cs g) (none-later b s ds h))
 
--- and only there
+-- where none of two lists paired applies, none of either does
 pub paired-none : (cs ds : List Cause) → first (paired cs ds) ≡ none → (first cs ≡ none) × (first ds ≡ none)
 unfolding outcome paired
 paired-none [] ds h = (refl, h)
@@ -150,7 +150,7 @@ abbrev pub lacks : Refusal → List Cause → Bool
 lacks r [] = true
 lacks r ((b ⇒ s) ∷ cs) = not (eqb (number s) (number r)) && lacks r cs
 
--- so where it is the first, it is so of those that follow
+-- a first cause that a list lacks is the first of those that follow the list
 pub lacking : (r : Refusal) (cs ds : List Cause) → lacks r cs ≡ true → first (cs ++ ds) ≡ some r → (first cs ≡ none) × (first ds ≡ some r)
 unfolding outcome
 lacking r [] ds l h = (refl, h)
@@ -176,7 +176,7 @@ module _ (cs : List Cause) (n : ℕ) (a : Answer) (e : a ≡ answer cs n) where
           let p = refused-by answers.Refused (answers.Value n) (answers.Refused r) cs r f refl in
           let z : _≡_ {A = ℕ} 0 1 = cc in absurd (omega arith)
 
-  -- and which value it is
+  -- a value that is answered is the value of the call
   pub value-is : (m : ℕ) → a ≡ answers.Value m → m ≡ n
   value-is m h = let p = passed answers.Refused (answers.Value n) (answers.Value n) cs (accepted m h) refl in cc
 
@@ -205,11 +205,11 @@ module _ (cs : List Cause) (n : ℕ) (a : Answer) (e : a ≡ answer cs n) where
     pub call-passed : (m : ℕ) → a ≡ answers.Value m → x ≡ v → x ≡ outcome f cs v
     call-passed m h q = passed f v x cs (accepted m h) q
 
-    -- or the causes that follow
+    -- an inner call that is accepted leaves the causes that follow
     pub call-passed-first : (ds : List Cause) (m : ℕ) → a ≡ answers.Value m → x ≡ outcome f ds v → x ≡ outcome f (cs ++ ds) v
     call-passed-first ds m h q = after f v x cs ds (accepted m h) q
 
--- ---- the same of a call that answers a slot
+-- ---- an inner call that answers a slot
 
 module _ (s : Routed) where
   pub slot-value : (n : ℕ) → s ≡ routed.Slot n → answers.Value n ≡ slotAnswer s
@@ -280,5 +280,5 @@ pub ruleset answering = (refl, value-done, order-done, slot-done, here, later, d
 -- an outcome after a call whose answer is handed on or passed
 pub ruleset handing-on = (handed-on, handed-on-first, call-passed, call-passed-first, answering)
 
--- and after one whose slot or refusal is
+-- an outcome after a call whose slot or refusal is handed on or passed
 pub ruleset slot-handing-on = (slot-told, slot-handed-on, slot-passed, answering)

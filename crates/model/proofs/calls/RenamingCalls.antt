@@ -101,7 +101,7 @@ module _ (v : List ℕ) (p q : Key) (n d : List ℕ) (m : ℕ) (h : pivotsAnswer
   pub pivots-read : elements (take (m * recordSize) (pivotsLeaves v p q n d)) ≡ newPivots v p q n
   pivots-read = rw written (elements-encodeAll (newPivots v p q n) short)
 
-  -- and pass the check: they can be lent to the next call
+  -- the records written pass the check: they can be lent to the next call
   pub pivots-pass : first (pivotCauses false false (take (m * recordSize) (pivotsLeaves v p q n d))) ≡ none
   pivots-pass =
       let c = pivots-count (elements v) p q (element n) (omega (arith, wf-count (elements v) wf)) in

@@ -76,7 +76,7 @@ module _ (shape wrong : Bool) (p e : List ℕ) (h : first (tableCauses shape wro
   pub slot-right : pivotAt (elements p) (i + 1) ≡ element (recordAt p (i + 1))
   slot-right = element-at p (i + 1) slot-next
 
-  -- and so is the edge
+  -- the edge is what its record stands for
   pub slot-edge : edgeAt (edges e) i ≡ edgeOf (recordAt e i)
   slot-edge = edge-at e i s
 

@@ -43,7 +43,7 @@ module _ (p e : List ℕ) (h : first (tableCauses false false p e) ≡ none) (k 
   pub bounded-says : tooLong k ≡ false → (b : Bool) → BoundedKey (elements p) k ≡ b → boundedKeyAnswer p k ≡ yesOrNo b
   bounded-says t b g = bounded-answer ∙ rw (t, g)
 
-  -- and where it answers, the key is no longer than that, and is bounded or not
+  -- where the question is answered, the key has at most 64 bytes, and is bounded or not
   pub says-bounded : (b : Bool) → boundedKeyAnswer p k ≡ yesOrNo b → (tooLong k ≡ false) × (BoundedKey (elements p) k ≡ b)
   says-bounded b g = go (tooLong k) (BoundedKey (elements p) k) b (sym bounded-answer ∙ g)
     where

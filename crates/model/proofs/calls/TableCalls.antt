@@ -59,7 +59,7 @@ module _ (p : List ℕ) where
     unfolding elements
     element-at = getD-map element (records p) i _ [] inside
 
-    -- and so is an edge
+    -- an edge is what the record at its place stands for
     pub edge-at : edgeAt (edges p) i ≡ edgeOf (recordAt p i)
     unfolding edges
     edge-at = getD-map edgeOf (records p) i _ [] inside
@@ -73,7 +73,7 @@ bytes-element r b = go (eqb (lengthField r) maxMark)
     go true = tt
     go false = bytes-take (lengthField r) (drop 2 r) (bytes-drop 2 r b)
 
--- and so are pivots
+-- pivots read from bytes are of bytes
 bytes-elements : (n : ℕ) (l : List ℕ) → Bytes l → BytesT (map element (pieces recordSize n l))
 unfolding pieces
 bytes-elements zero l b = tt
@@ -154,7 +154,7 @@ module _ (shape wrong : Bool) (p : List ℕ) (h : first (pivotCauses shape wrong
   pub causes-least : 2 ≤ length (elements p)
   causes-least = let c = count in rw (length-elements p) (omega arith)
 
-  -- and at most 64
+  -- there are at most 64 pivots
   pub causes-most : length (elements p) ≤ maxPivots
   causes-most = let c = count in rw (length-elements p) (omega arith)
 
@@ -169,7 +169,7 @@ module _ (shape wrong : Bool) (p : List ℕ) (h : first (pivotCauses shape wrong
       short : all shortElement (map element (records p)) ≡ true
       short = all-map _ element shortElement short-element (records p) (read-elements (records p) causes-read)
 
--- so are those of a table whose check is passed
+-- pivots whose check is passed are well formed
 pub checked-wf : (shape wrong : Bool) (p : List ℕ) (n m : ℕ) (x : Answer) → x ≡ answer (pivotCauses shape wrong p) n → x ≡ answers.Value m
     → WFPivots (elements p) ≡ true
 checked-wf shape wrong p n m x e h = causes-wf shape wrong p (accepted (pivotCauses shape wrong p) n x e m h)
@@ -242,7 +242,7 @@ module _ (shape wrong : Bool) (p e : List ℕ) (h : first (tableCauses shape wro
   pub table-encode : Bytes p → encodeAll (elements p) ≡ p
   table-encode = causes-encode _ _ p table-pivots
 
-  -- and so are those of the edges
+  -- the edges' records are the bytes
   pub table-encode-edges : Bytes e → encodeEdges (edges e) ≡ e
   unfolding edgesRead
   table-encode-edges b = encodeEdges-edges e (length (edges e)) b table-edges-whole table-edges-read
@@ -256,14 +256,14 @@ pub table-checked-wf : (shape wrong : Bool) (p e : List ℕ) (n m : ℕ) (x : An
     → WFPivots (elements p) ≡ true
 table-checked-wf shape wrong p e n m x f h = table-wf shape wrong p e (accepted (tableCauses shape wrong p e) n x f m h)
 
--- ---- the other arguments of a call
+-- ---- beside a table without causes 1 to 4: the arguments that come with it
 
 -- its counts are right
 table-counts : (p e : List ℕ) → first (tableCauses false false p e) ≡ none → (notEdgeCount p e || notPivotCount p) ≡ false
 unfolding pivotCauses
 table-counts p e h = none-here _ Shape _ (table-pivots false false p e h)
 
--- so an argument that is wrong would be the first cause
+-- beside such a table an argument that is wrong would be the first cause
 pub wrong-first : (wrong : Bool) (p e : List ℕ) → first (tableCauses false false p e) ≡ none
     → first (tableCauses false wrong p e) ≡ cond wrong (some Malformed) none
 unfolding tableCauses pivotCauses outcome

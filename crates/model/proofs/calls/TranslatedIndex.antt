@@ -95,7 +95,7 @@ module _ (p l x : List ℕ) (old new : Key) (db dx : List ℕ) (m : ℕ) (h : tr
   pub translate-bucket-answers : translateBucketAnswer l old new db ≡ answers.Value m
   translate-bucket-answers = rw translate-answers (sym (passed answers.Refused _ _ (translateBucketCauses l old new db) bucket refl))
 
-  -- and leaves the same bytes
+  -- translate_bucket leaves the same bytes
   pub translate-bucket-leaves : translateIndexLeavesBucket p l x old new db dx ≡ translateBucketLeaves l old new db
   translate-bucket-leaves =
       sym (passed (λ (_ : Refusal). db) _ _ (translateIndexCauses p l x old new db dx) no-cause refl)

@@ -81,6 +81,6 @@ module _ (p e : List ℕ) (k : Key) (h : first (translateCauses p e k) ≡ none)
     pub translate-apply-answer : applyAnswer (translatePair p e k) k d ≡ translateKeyAnswer p e k d
     translate-apply-answer = alike answers.Refused (answers.Value _) ∙ ap (λ (x : Key). outcome answers.Refused (translateKeyCauses p e k d) (answers.Value (length x))) translated
 
-    -- and leaves what it leaves
+    -- applying the pair of the key's slot leaves what TranslateKey leaves
     pub translate-apply-leaves : applyLeaves (translatePair p e k) k d ≡ translateKeyLeaves p e k d
     translate-apply-leaves = alike (λ (_ : Refusal). d) (over _ d) ∙ ap (λ (x : Key). outcome (λ (_ : Refusal). d) (translateKeyCauses p e k d) (over x d)) translated

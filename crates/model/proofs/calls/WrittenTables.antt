@@ -107,7 +107,7 @@ unfolding encode encodeEdge
 edge-reads (edge k) h = rw (reading-key k (leb-true (length k) maxLen h))
 edge-reads noEdge h = rw reading-noEdge
 
--- and so is each of several
+-- the records of several edges are read as edges
 edges-read : (et : EdgeTable) → all shortEdge et ≡ true → edgesRead (map encodeEdge et) ≡ true
 unfolding edgesRead all
 edges-read [] h = refl

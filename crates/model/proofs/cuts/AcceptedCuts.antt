@@ -81,7 +81,7 @@ module _ (left : Bool) (k : Key) (d : Dests) (p e : List ℕ) (n : ℕ) (p′ e�
     pub cut-wrote-elements : elements p′ ≡ Split left (elements p) k
     cut-wrote-elements = rw cut-wrote-pivots (pivots-back was-cuttable)
 
-    -- and their count is the number answered
+    -- the count of the pivots left is the number answered
     pub cut-wrote-count : n ≡ length (elements p′)
     cut-wrote-count = let w = was-written in rw cut-wrote-elements cc
 
@@ -102,7 +102,7 @@ module _ (left : Bool) (k : Key) (d : Dests) (p e : List ℕ) (n : ℕ) (p′ e�
         (bytes-encodeAll (Split left (elements p) k) (wf-all-short _ w)
         (split-bytes (elements p) k was-wf (was-cuttable .bytes) g left (was-cuttable .here)))
 
-    -- and by it each key that it bounds is translated as by the uncut table, answer and bytes
+    -- by what a cut leaves each key that it bounds is translated as by the uncut table, answer and bytes
     pub cut-preserved-bytes : (j : Key) → Bytes j → BoundedKey (elements p′) j ≡ true → TranslatedAlike p e p′ e′ j
     cut-preserved-bytes j h v = rw (cut-wrote-pivots, cut-wrote-edges) (cut-alike was-cuttable was-short j h (rw cut-wrote-elements at v))
 
@@ -124,7 +124,7 @@ changed-bytes (then-inserted c k d n g a) b = insert-leaves-bytes _ _ k d n _ _ 
 in-turn : (p e q f p′ e′ : List ℕ) (j : Key) → TranslatedAlike p e q f j → TranslatedAlike q f p′ e′ j → TranslatedAlike p e p′ e′ j
 in-turn p e q f p′ e′ j before last x = (last x .0 ∙ before x .0, last x .1 ∙ before x .1)
 
--- and by what they leave each key that it bounds is translated as by the old table, answer and bytes
+-- by what cuts and insertions leave each key that it bounds is translated as by the old table, answer and bytes
 pub changed-preserved : {p e p′ e′ : List ℕ} → Changed p e p′ e′ → Bytes p → (j : Key) → Bytes j → BoundedKey (elements p′) j ≡ true
     → TranslatedAlike p e p′ e′ j
 changed-preserved unchanged b j h v = λ x. (refl, refl)

@@ -181,7 +181,7 @@ module _ (a b : Element) where
       go true k r = rw k r
       go false k r = r
 
-  -- and they are bytes where all are
+  -- the pivots strictly between two elements are bytes where all pivots are
   pub bytes-between : (pt : PivotTable) → BytesT pt → BytesT (strictlyBetween a b pt)
   unfolding strictlyBetween
   bytes-between [] h = tt

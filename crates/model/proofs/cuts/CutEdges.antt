@@ -89,7 +89,7 @@ edges-say et (p ∷ pt) h =
     let e = eqb-true (length et) (length pt) (w .0) in
     record { count = omega arith; fits = λ i k. rw add-one (fits-at p pt et e (w .1) i (omega arith)) }
 
--- and no more
+-- WFEdges says no more than the count and that each edge fits
 pub say-edges : (et : EdgeTable) (pt : PivotTable) → Fit et pt → WFEdges et pt ≡ true
 unfolding WFEdges
 say-edges et [] w = absurd (omega (arith, w .count))

@@ -71,7 +71,7 @@ module _ {pt : PivotTable} (t : Table pt) (k : Key) where
         List·getD-append (take (CutoffForLeft pt k + 1) pt) (key k ∷ []) max i (omega arith)
         ∙ getD-take (CutoffForLeft pt k + 1) pt i max (omega arith)
 
-    -- and then has k
+    -- the left cut ends with k
     pub left-end : pivotAt (SplitLeft pt k) (CutoffForLeft pt k + 1) ≡ key k
     unfolding SplitLeft
     left-end =
@@ -135,7 +135,7 @@ module _ (pt : PivotTable) (k : Key) (w : WFPivots pt ≡ true) where
     pub split-left-many : 2 ≤ length (SplitLeft pt k)
     split-left-many = omega (arith, left-length t k v)
 
-    -- and no more than before
+    -- the left cut has no more pivots than the table
     pub split-left-most : length (SplitLeft pt k) ≤ length pt
     split-left-most = omega (arith, left-length t k v, left-slot t k v .slot)
 
@@ -186,7 +186,7 @@ module _ (pt : PivotTable) (k : Key) (w : WFPivots pt ≡ true) where
     pub split-right-many : 2 ≤ length (SplitRight pt k)
     split-right-many = omega (arith, right-length t k v, right-slot t k v .slot)
 
-    -- and no more than before
+    -- the right cut has no more pivots than the table
     pub split-right-most : length (SplitRight pt k) ≤ length pt
     split-right-most = omega (arith, right-length t k v)
 

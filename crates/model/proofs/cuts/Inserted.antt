@@ -170,7 +170,7 @@ module _ (p e : List ℕ) (k : Key) (d : Dests) (n : ℕ) (p′ e′ : List ℕ)
         let w : encodeAll (insertedPivots p k) ≡ p′ = let v = was-written in cc in
         rw (← w) (bytes-encodeAll _ (wf-all-short _ (new-wf p e k b g was-new was-short)) (new-bytes p e k b g was-new was-short))
 
-    -- and bound the same keys
+    -- the pivots left by an insertion bound the keys that they bounded before
     pub insert-bounded-bytes : (j : Key) → BoundedKey (elements p′) j ≡ BoundedKey (elements p) j
     insert-bounded-bytes j =
         rw (insert-leaves .pivots, ← pivots-back p e k b g was-new was-short) (same-keys p e k b g was-new was-short j)

@@ -79,7 +79,7 @@ module _ {pt : PivotTable} {et : EdgeTable} {k : Key} (q : Insertable pt et k) w
   unfolding InsertPivot
   insert-wf = whole-wf meets
 
-  -- and so are its edges
+  -- the new table's edges are well formed
   pub insert-edges-wf : WFEdges newEdges new ≡ true
   unfolding InsertPivot
   insert-edges-wf = rw insert-edges (whole-edges-wf meets)
@@ -115,7 +115,7 @@ module _ {pt : PivotTable} {et : EdgeTable} {k : Key} (q : Insertable pt et k) w
   insert-last = sym (split-right-last new k insert-wf (insert-inside false)) ∙ rw (insert-split false) (split-right-last pt k (q .wf) (here false))
 
   module _ (j : Key) where
-    -- so it bounds the same keys
+    -- the new table bounds the keys that it bounded before
     pub insert-bounded : BoundedKey new j ≡ BoundedKey pt j
     unfolding BoundedKey
     insert-bounded = rw (insert-first, insert-last)
@@ -125,7 +125,7 @@ module _ {pt : PivotTable} {et : EdgeTable} {k : Key} (q : Insertable pt et k) w
     side h true e = split-left-bounded pt k (q .wf) (here true) j ∙ rw (h, e)
     side h false e = split-right-bounded pt k (q .wf) (here false) j ∙ rw (h, e)
 
-    -- and is translated as before
+    -- by the new table each key is translated as before
     pub insert-preserved : Bytes j → BoundedKey pt j ≡ true → TranslateKey new newEdges j ≡ TranslateKey pt et j
     insert-preserved d h = go (lte (key k) (key j)) refl
       where

@@ -29,7 +29,7 @@ ends-with pt h =
     let n : drop (length pt - 1 + 1) pt ≡ [] = drop-of-length-le pt m in
     rw n at (around pt (length pt - 1) (omega arith))
 
--- and begins with its first
+-- a table begins with its first pivot
 begins-with : (pt : PivotTable) → 1 ≤ length pt → pivotAt pt 0 ∷ drop 1 pt ≡ pt
 begins-with [] h = absurd (omega arith)
 begins-with (p ∷ pt) h = refl
@@ -90,7 +90,7 @@ module _ {pt qt : PivotTable} {et ft : EdgeTable} {k : Key} (j : Joinable pt qt 
   pub join-wf : WFPivots new ≡ true
   join-wf = rw (← whole-is) (whole-wf meets)
 
-  -- and so are its edges
+  -- the joined table's edges are well formed
   pub join-edges-wf : WFEdges newEdges new ≡ true
   unfolding JoinEdges
   join-edges-wf = rw (← whole-is) (whole-edges-wf meets)
@@ -121,7 +121,7 @@ module _ {pt qt : PivotTable} {et ft : EdgeTable} {k : Key} (j : Joinable pt qt 
   pub join-second-bounded : (i : Key) → BoundedKey qt i ≡ (BoundedKey new i && lte (key k) (key i))
   join-second-bounded i = ap (λ (t : PivotTable). BoundedKey t i) (sym (join-split false)) ∙ split-right-bounded new k join-wf (join-inside false) i
 
-  -- and both are translated as there
+  -- by the joined table a key of either half is translated as by that half
   pub join-preserved : BytesT pt → BytesT qt → Bytes k → (left : Bool) (i : Key) → Bytes i → BoundedKey (cond left pt qt) i ≡ true
       → TranslateKey new newEdges i ≡ TranslateKey (cond left pt qt) (cond left et ft) i
   join-preserved b c d left i h v =

@@ -70,7 +70,7 @@ module _ (p e q f : List ℕ) (h : first (meetingCauses p e q f) ≡ none) where
   half-edges true = refl
   half-edges false = refl
 
-  -- and so is the whole
+  -- the joined table is well formed, as its halves are
   new-wf : WFPivots pt ≡ true
   new-wf = join-wf can
 

@@ -105,7 +105,7 @@ module _ {xs : PivotTable} {k : Key} {ys : PivotTable} {es fs : EdgeTable} (w : 
           let a = both (all shortElement xs) _ (sym (all-append shortElement xs (key k ∷ [])) ∙ wf-says _ (w .first-wf) .short) in
           all-append shortElement xs (key k ∷ ys) ∙ rw (a .0, wf-says _ (w .second-wf) .short)
 
-  -- and so are their edges
+  -- the edges of the whole are well formed
   pub whole-edges-wf : WFEdges (es ++ fs) whole ≡ true
   unfolding WFEdges
   whole-edges-wf = go xs first-count first-slots (w .first-edges)

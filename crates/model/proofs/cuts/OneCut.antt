@@ -56,7 +56,7 @@ module _ {left : Bool} {k : Key} {p e : List ℕ} (c : Cuttable left k p e) wher
   old-edges : WFEdges (edges e) (elements p) ≡ true
   old-edges = table-edges false false p e (c .table)
 
-  -- so is the cut
+  -- the cut is well formed
   cut-wf : WFPivots pt ≡ true
   cut-wf = split-wf (elements p) k old-wf left (c .here) (c .size)
 
@@ -127,7 +127,7 @@ module _ {left : Bool} {k : Key} {p e : List ℕ} (c : Cuttable left k p e) wher
     pub roomy-again : (d : Dests) → Roomy (elements p) (edges e) d → Roomy (elements (encodeAll pt)) (edges (encodeEdges et)) d
     roomy-again d r = rw (pivots-back, edges-encodeEdges et s) (cut-fits d r)
 
-    -- and translates its keys as the table does
+    -- the cut translates its keys as the table does
     pub cut-alike : (j : Key) → Bytes j → BoundedKey pt j ≡ true → TranslatedAlike p e (encodeAll pt) (encodeEdges et) j
     cut-alike j b h =
         alike p e (encodeAll pt) (encodeEdges et) j (c .table) cut-table (split-bounded (elements p) k old-wf left (c .here) j h) (rw pivots-back h)

@@ -66,6 +66,6 @@ module _ {left again : Bool} {j k : Key} {p e : List ℕ} {qt : PivotTable} {qe 
       written : all shortEdge et ≡ true → cut left j a p e ≡ wrote (length pt) (encodeAll pt) (encodeEdges et)
       written s = x ∙ rw s
 
-  -- and where there is room for the records of the table
+  -- where there is room for the records of the table, the order of cuts ends at qt and qe
   pub order-roomy : Roomy (elements p) (edges e) a → Roomy (elements p) (edges e) b → order ≡ endWith qt qe
   order-roomy u v = both-end (cut-roomy (o .start) a u) (λ s. cut-roomy (second s) b (roomy-again (o .start) s b v))

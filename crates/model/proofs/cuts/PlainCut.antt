@@ -35,7 +35,7 @@ module _ (pt : PivotTable) (l r : Key) (w : WFPivots pt ≡ true) (h : lt (key l
   unfolding BoundedKey
   right-accepted = rw f (lt-trans-lte (key l) (key r) (lastPivot pt) h g)
 
-  -- and then the left cut at r
+  -- after the right cut at l the left cut at r is accepted
   pub left-after-right : ValidLeftCutOffKey (SplitRight pt l) r ≡ true
   unfolding ValidLeftCutOffKey
   left-after-right = rw (split-right-first pt l w right-accepted, split-right-last pt l w right-accepted, h) g
@@ -45,7 +45,7 @@ module _ (pt : PivotTable) (l r : Key) (w : WFPivots pt ≡ true) (h : lt (key l
   unfolding ValidLeftCutOffKey
   left-accepted = rw (lte-trans-lt (pivotAt pt 0) (key l) (key r) f h) g
 
-  -- and then the right cut at l
+  -- after the left cut at r the right cut at l is accepted
   pub right-after-left : BoundedKey (SplitLeft pt r) l ≡ true
   unfolding BoundedKey
   right-after-left = rw (split-left-first pt r w left-accepted, split-left-last pt r w left-accepted, f) h
@@ -77,7 +77,7 @@ module _ (pt : PivotTable) (l r : Key) (w : WFPivots pt ≡ true) (h : lt (key l
       ∙ rw (split-right-first pt l w right-accepted, right-is-cut t l right-accepted)
       (cut-cut pt (key l) (lastPivot pt) (key l) (key r) in-right)
 
-  -- and so do the left cut and then the right one
+  -- the left cut and then the right one make the plain cut
   pub left-right : SplitRight (SplitLeft pt r) l ≡ plainCut pt l r
   unfolding plainCut cutTo
   left-right =
@@ -126,7 +126,7 @@ module _ (pt : PivotTable) (l r : Key) (w : WFPivots pt ≡ true) (h : lt (key l
           ∙ rw (split-right-first pt l w right-accepted, right-edges-cut et t n l right-accepted, right-is-cut t l right-accepted)
           (cut-cut-edges (right-spans t l right-accepted) b c (bytes-at pt (NumBuckets pt) b) et (key l) (key r) in-right h c d)
 
-      -- and so are those of the left cut and then the right one
+      -- the edges of the left cut and then the right one are those of the plain cut
       pub left-right-edges : SplitRightEdges (SplitLeftEdges et pt r) (SplitLeft pt r) l ≡ plainCutEdges pt et l r
       unfolding plainCutEdges cutEdgesTo
       left-right-edges =
@@ -154,7 +154,7 @@ module _ (pt : PivotTable) (l r : Key) (w : WFPivots pt ≡ true) (h : lt (key l
             right-all-short pt et l q
             (left-short (SplitRight pt l) (SplitRightEdges et pt l) r (omega (arith, right-n)) (rw right-left-edges p) 0 (omega arith))
 
-        -- and those of the left cut
+        -- where the edges of the plain cut and of the table are short, those of the left cut are short
         pub left-edges-short : all shortEdge (SplitLeftEdges et pt r) ≡ true
         left-edges-short =
             let s = right-slot left-first l right-after-left .slot in

@@ -39,7 +39,7 @@ module _ (pt : PivotTable) (et : EdgeTable) (k : Key) (a : PrefixSet) where
   unfolding Translate
   translate-edge e = pair-is _ _ a e .1
 
-  -- and its prefix begins the key
+  -- the prefix of a key's pair begins the key
   pub translate-begins : WFPivots pt ≡ true → BoundedKey pt k ≡ true → Bytes k → Translate pt et k ≡ some a → IsPrefix (a .prefix) k ≡ true
   unfolding Translate
   translate-begins w h b e = rw (pair-is _ _ a e .0) (begins _ _ k b (route-from pt k w h) (route-below pt k w h))
@@ -77,7 +77,7 @@ module _ (pt : PivotTable) (et : EdgeTable) (k : Key) (w : WFPivots pt ≡ true)
       rw (left-edges-cut et t n k v, left-is-cut t k v)
       (cut-preserved et (left-spans t k v) b (bytes-at pt 0 b) c j d (rw (left-is-cut t k v) at h))
 
-  -- and so does the right cut
+  -- the right cut translates its keys as the table does
   pub split-right-preserved : BoundedKey pt k ≡ true → BoundedKey (SplitRight pt k) j ≡ true
       → TranslateKey (SplitRight pt k) (SplitRightEdges et pt k) j ≡ TranslateKey pt et j
   split-right-preserved v h =

@@ -188,7 +188,7 @@ module _ (p e : List ℕ) (k : Key) (c d : Dests) (m n : ℕ) (l x r y : List �
     same-first =
         few ∙ after some none _ (tableCauses false (tooLong k) p e) _ table (rw (new-pivots, inside-contained true (elements p) k valid, h))
 
-    -- and so are those of what is written
+    -- joining the cuts has the outcome of inserting the key, whatever is answered
     same : {A : Type 0} (z : Refusal → A) (v v′ : A) (dp de : List ℕ) → v ≡ v′ → outcome z (joinCauses l x r y dp de) v ≡ outcome z (insertCauses p e k dp de) v′
     same z v v′ dp de q =
         rw (← q) (followed z v (meetingCauses l x r y) (newPivotCauses p e k) _ same-first

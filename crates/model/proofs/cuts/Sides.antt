@@ -41,7 +41,7 @@ module _ (pt : PivotTable) (k : Key) (w : WFPivots pt ≡ true) where
       split-edges-wf true v = split-left-edges-wf pt et k w x v b c
       split-edges-wf false v = split-right-edges-wf pt et k w x v b c
 
-      -- and it translates its keys as the table does
+      -- a cut translates its keys as the table does
       pub split-preserved : (left : Bool) → inside left pt k ≡ true → (j : Key) → Bytes j → BoundedKey (Split left pt k) j ≡ true
           → TranslateKey (Split left pt k) (SplitEdges left et pt k) j ≡ TranslateKey pt et j
       split-preserved true v j d = split-left-preserved pt et k w x b c j d v

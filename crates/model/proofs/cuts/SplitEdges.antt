@@ -112,12 +112,12 @@ module _ (pt : PivotTable) (et : EdgeTable) (k : Key) (w : WFPivots pt ≡ true)
         let c = CutoffForLeft pt k in
         rw (e, add-one c) (sym (take-suc et c noEdge (omega (arith, n, left-slot t k v .slot))))
 
-    -- so it is at a pivot
+    -- at a pivot the edges that a left cut leaves are the old ones
     pub split-left-pivot : key k ≡ pivotAt pt (CutoffForLeft pt k + 1) → SplitLeftEdges et pt k ≡ take (CutoffForLeft pt k + 1) et
     unfolding edgeWithin
     split-left-pivot e = left-kept (rw e (cut-same _ (edgeAt et (CutoffForLeft pt k))))
 
-    -- and in a slot with no edge
+    -- in a slot with no edge the edges that a left cut leaves are the old ones
     pub split-left-none : edgeAt et (CutoffForLeft pt k) ≡ noEdge → SplitLeftEdges et pt k ≡ take (CutoffForLeft pt k + 1) et
     unfolding edgeWithin cutEdge
     split-left-none e = left-kept (rw e)
@@ -137,12 +137,12 @@ module _ (pt : PivotTable) (et : EdgeTable) (k : Key) (w : WFPivots pt ≡ true)
         let c = CutoffForRight pt k in
         rw (e, add-one c) (sym (drop-cons et c noEdge (omega (arith, n, right-slot t k v .slot))))
 
-    -- so it is at a pivot
+    -- at a pivot the edges that a right cut leaves are the old ones
     pub split-right-pivot : key k ≡ pivotAt pt (CutoffForRight pt k) → SplitRightEdges et pt k ≡ drop (CutoffForRight pt k) et
     unfolding edgeWithin
     split-right-pivot e = right-kept (rw e (cut-same _ (edgeAt et (CutoffForRight pt k))))
 
-    -- and in a slot with no edge
+    -- in a slot with no edge the edges that a right cut leaves are the old ones
     pub split-right-none : edgeAt et (CutoffForRight pt k) ≡ noEdge → SplitRightEdges et pt k ≡ drop (CutoffForRight pt k) et
     unfolding edgeWithin cutEdge
     split-right-none e = right-kept (rw e)
@@ -203,7 +203,7 @@ module _ (pt : PivotTable) (et : EdgeTable) (k : Key) where
       let g = rw (getD-at (take c et) x [] noEdge c (length-take-le c et m)) at f in
       rw (all-append shortEdge (take c et) (x ∷ []), all-parts shortEdge c et h .0, g)
 
-  -- and only that of a right cut
+  -- beside short edges only the cut edge of a right cut may be long
   pub right-all-short : all shortEdge et ≡ true → shortEdge (edgeAt (SplitRightEdges et pt k) 0) ≡ true
       → all shortEdge (SplitRightEdges et pt k) ≡ true
   unfolding SplitRightEdges all
@@ -215,13 +215,13 @@ module _ (pt : PivotTable) (et : EdgeTable) (k : Key) where
 pub no-edges-fit : (pt : PivotTable) (et : EdgeTable) → length et + 1 ≡ length pt → ((i : ℕ) → edgeAt et i ≡ noEdge) → WFEdges et pt ≡ true
 no-edges-fit pt et n f = say-edges et pt (record { count = n; fits = λ i h. rw (f i) })
 
--- and is short
+-- edges none of which is there are short
 none-short : (et : EdgeTable) → ((i : ℕ) → edgeAt et i ≡ noEdge) → all shortEdge et ≡ true
 unfolding all
 none-short [] f = refl
 none-short (x ∷ et) f = rw (f 0) (none-short et (λ i. f (suc i)))
 
--- and so it is in each cut
+-- edges none of which is there are short in each cut
 pub no-edges-short : (left : Bool) (pt : PivotTable) (et : EdgeTable) (k : Key) → ((i : ℕ) → edgeAt et i ≡ noEdge)
     → all shortEdge (SplitEdges left et pt k) ≡ true
 unfolding SplitLeftEdges SplitRightEdges edgeWithin cutEdge all

@@ -41,7 +41,7 @@ module _ (p q a b : Key) (h : IsPrefix p a ≡ true) (k : IsPrefix p b ≡ true)
       ∙ sym (lte-append p (drop (length p) a) (drop (length p) b))
       ∙ rw (prefix-split p a h, prefix-split p b k)
 
--- and so below stays below
+-- by a change of prefix below stays below
 pub change-lt : (p q a b : Key) → IsPrefix p a ≡ true → IsPrefix p b ≡ true → lt (key (changePrefix p q a)) (key (changePrefix p q b)) ≡ lt (key a) (key b)
 change-lt p q a b h k = ap not (change-lte p q b a k h)
 

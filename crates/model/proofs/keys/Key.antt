@@ -45,7 +45,7 @@ prefix-refl k = rw append-nil at (prefix-append k [])
 pub prefix-take : (n : ℕ) (k : Key) → IsPrefix (take n k) k ≡ true
 prefix-take n k = rw (take-append-drop n k) at (prefix-append (take n k) (drop n k))
 
--- and a prefix is such
+-- a prefix is a key's first bytes
 pub prefix-is-take : (p k : Key) → IsPrefix p k ≡ true → take (length p) k ≡ p
 prefix-is-take p k h = ap (take (length p)) (sym (prefix-split p k h)) ∙ take-append-seam p (drop (length p) k)
 
@@ -128,7 +128,7 @@ bytes-take zero l h = tt
 bytes-take (suc n) [] h = tt
 bytes-take (suc n) (x ∷ l) h = (h .0, bytes-take n l (h .1))
 
--- and so are those beyond
+-- those beyond the first of them are bytes
 pub bytes-drop : (n : ℕ) (l : List ℕ) → Bytes l → Bytes (drop n l)
 bytes-drop zero l h = h
 bytes-drop (suc n) [] h = tt

@@ -70,7 +70,7 @@ parts (x ∷ a) (y ∷ b) = go (ltb x y) (ltb y x) refl refl (parts a b)
 pub to-Lte : (a b : Key) → lteKey a b ≡ true → Lte a b
 to-Lte a b h = ⊎-elim (λ p. p) (λ q. absurd (true≢false (sym h ∙ from-Lt q))) (parts a b)
 
--- and so does one that is failed
+-- a test that is failed says how
 pub to-Lt : (a b : Key) → lteKey b a ≡ false → Lt a b
 to-Lt a b h = ⊎-elim (λ p. absurd (true≢false (sym (from-Lte p) ∙ h))) (λ q. q) (parts b a)
 
@@ -167,7 +167,7 @@ first-difference p a b x y h = ap not (from-Lt (Lt-after p (less< h)))
 pub lt-false : (a b : Element) → lt a b ≡ true → lte b a ≡ false
 lt-false a b h = not-true (lte b a) h
 
--- and is what that says
+-- where one order is false, the other way round is below
 pub false-lt : (a b : Element) → lte b a ≡ false → lt a b ≡ true
 false-lt a b h = ap not h
 
@@ -208,7 +208,7 @@ pub cmp-same : (a : Element) → cmp a a ≡ pos 0
 unfolding cmp
 cmp-same a = rw (lte-refl a)
 
--- and nowhere else
+-- compare answers 0 only where both elements are one
 pub cmp-zero : (a b : Element) → cmp a b ≡ pos 0 → a ≡ b
 unfolding cmp
 cmp-zero a b h = go (lte b a) (lte a b) refl refl

@@ -67,7 +67,7 @@ module _ (n : ℕ) (a b : Key) (h : n ≤ length a) (k : n ≤ length b) where
   pub first-decides : (cmp (key (take n a)) (key (take n b)) ≡ pos 0 → ⊥) → cmp (key a) (key b) ≡ cmp (key (take n a)) (key (take n b))
   first-decides = decided a b (take n a) (take n b) (lteKey (drop n a) (drop n b)) (lteKey (drop n b) (drop n a)) (lte-parts n a b h k) (lte-parts n b a k h)
 
-  -- and where they agree the rest does
+  -- where the first n bytes agree the rest decides
   pub rest-decides : cmp (key (take n a)) (key (take n b)) ≡ pos 0 → cmp (key a) (key b) ≡ cmp (key (drop n a)) (key (drop n b))
   unfolding cmp lte
   rest-decides d =
@@ -138,7 +138,7 @@ module _ (a b : Key) (n m : ℕ) (e : length a ≡ length b) (h : n ≤ length a
   padded-decides =
       decided (take n a) (take m b) a b (leb n m) (leb m n) (lte-padded a b n m e h k p q) (lte-padded b a m n (sym e) k h q p)
 
-  -- and where they agree the lengths do
+  -- where the padded keys agree the lengths decide
   pub length-decides : cmp (key a) (key b) ≡ pos 0 → cmp (key (take n a)) (key (take m b)) ≡ cond (not (leb m n)) (negsuc 0) (cond (not (leb n m)) (pos 1) (pos 0))
   length-decides =
       tied (take n a) (take m b) a b (leb n m) (leb m n) (lte-padded a b n m e h k p q) (lte-padded b a m n (sym e) k h q p)

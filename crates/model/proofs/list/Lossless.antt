@@ -125,7 +125,7 @@ module _ (s s′ : List ℕ) (h : first (listCauses s) ≡ none) (e : shelfList 
           let told : shelfList s′ ≡ refusedText r = unfold shelfList in sym (refused-by refusedText _ _ (listCauses s′) r f refl) in
           absurd (not-refused _ _ r (table-listed s h ∙ e ∙ told))
 
-  -- and it is that table, byte for byte
+  -- an input with the list of a table is that table, byte for byte
   pub list-one : Bytes s → Bytes s′ → s ≡ s′
   list-one b b′ =
       let h′ = list-accepted in

@@ -79,7 +79,7 @@ left (raised {a = a} {l = l} {p = p} e s) = prefix-next a p l ∙ left s
 left (ff {a = a} {l = l} {p = p} e s) = prefix-next a p l ∙ left s
 left (stops a l r f) = refl
 
--- and so does every key of the range
+-- that far every key of the range goes along
 all : {l : Key} {r : Element} {p k : Key} → Reach l r p → Bytes k → Lte l k → Below k r → IsPrefix p k ≡ true
 unfolding IsPrefix
 all ends w h j = refl
@@ -99,7 +99,7 @@ unfolding lte
 to-Below k (key r) h = to-Lt k r (lt-false (key k) (key r) h)
 to-Below k max h = tt
 
--- and is passed by what is below
+-- the order's test is passed by a key that is below
 from-Below : (k : Key) (r : Element) → Below k r → lt (key k) r ≡ true
 unfolding lte
 from-Below k (key r) h = ap not (from-Lt h)
@@ -117,7 +117,7 @@ prefix-lte p k h = go (drop (length p) k) (prefix-split p k h)
 pub prefix-of-left : (l : Key) (r : Element) → IsPrefix (PivotLcp (key l) r) l ≡ true
 prefix-of-left l r = left (reach l r)
 
--- and is not above it
+-- the range prefix is not above the left key
 pub prefix-not-above : (l : Key) (r : Element) → lte (key (PivotLcp (key l) r)) (key l) ≡ true
 prefix-not-above l r = prefix-lte (PivotLcp (key l) r) l (prefix-of-left l r)
 

@@ -51,7 +51,7 @@ pub bytes-record : (k : Key) → keyBytes (recordOf (length k) k) ≡ k
 unfolding keyBytes
 bytes-record k = rw (field-record (length k) k) (unfold recordOf in take-append-seam k _)
 
--- and after them all is zero
+-- after a record's key all is zero
 pub tail-record : (n : ℕ) (k : Key) → allZero (drop (2 + length k) (recordOf n k)) ≡ true
 unfolding recordOf
 tail-record n k = rw (← drop-drop (length k) 2 (recordOf n k), drop-append-seam k (zeros (maxLen - length k)), allZero-zeros)

@@ -34,7 +34,7 @@ module _ (k : Key) where
   no-pivot [] f = refl
   no-pivot (p ∷ pt) f = rw (f 0 (omega arith)) (no-pivot pt (λ i h. f (suc i) (omega arith)))
 
-  -- and no pivot is a key that is none
+  -- a key that is no pivot is not the pivot at any place
   pub not-pivot : (pt : PivotTable) (i : ℕ) → i < length pt → isPivot pt k ≡ false → same (pivotAt pt i) (key k) ≡ false
   not-pivot pt i h f = go (same (pivotAt pt i) (key k)) refl
     where
@@ -94,7 +94,7 @@ module _ (pt : PivotTable) (k : Key) (w : WFPivots pt ≡ true) where
     strictly-route =
         slot-is-route pt k w i (omega (arith, g .slot)) (lt-lte (pivotAt pt i) (key k) (g .from)) (g .upto)
 
-    -- and the slot of both cuts at it
+    -- both cuts at a key strictly in a slot cut that slot
     pub strictly-cutoff : (left : Bool) → cutoff left pt k ≡ i
     strictly-cutoff true = sym (cutoff-left-is pt k w i (omega (arith, g .slot)) (g .from) (lt-lte (key k) (pivotAt pt (i + 1)) (g .upto)))
     strictly-cutoff false = cutoff-right-is-route pt k ∙ sym strictly-route
@@ -121,7 +121,7 @@ module _ (pt : PivotTable) (k : Key) (w : WFPivots pt ≡ true) where
         rw (lte-trans (pivotAt pt 0) (pivotAt pt i) (key k) a (lt-lte (pivotAt pt i) (key k) (g .from)))
         (lte-trans (key k) (pivotAt pt (i + 1)) (lastPivot pt) (lt-lte (key k) (pivotAt pt (i + 1)) (g .upto)) b)
 
-    -- and no pivot
+    -- a key strictly in a slot is no pivot
     pub strictly-new : isPivot pt k ≡ false
     strictly-new = no-pivot k pt (λ j h. ⊎-elim (before j h) (after j h) (le-or-lt j i))
       where
@@ -161,7 +161,7 @@ module _ (pt : PivotTable) (k : Key) (w : WFPivots pt ≡ true) (h : isPivot pt 
           lte-antisym (key k) (pivotAt pt (CutoffForLeft pt k + 1)) (cutoff-left-reaches pt k w v)
           (lte-trans (pivotAt pt (CutoffForLeft pt k + 1)) (pivotAt pt i) (key k) s (e .0))
 
-  -- and begins that of the right cut
+  -- a pivot begins the slot of the right cut at it
   pub pivot-right : BoundedKey pt k ≡ true → key k ≡ pivotAt pt (CutoffForRight pt k)
   pivot-right v = rw (cutoff-right-is-route pt k) (find-pivot k pt h (λ i l e. at i l (both _ _ e) (le-or-lt i (Route pt k))))
     where
@@ -172,7 +172,7 @@ module _ (pt : PivotTable) (k : Key) (w : WFPivots pt ≡ true) (h : isPivot pt 
           lte-antisym (key k) (pivotAt pt (Route pt k)) (lte-trans (key k) (pivotAt pt i) (pivotAt pt (Route pt k)) (e .1) s) (route-from pt k w v)
       at i l e (inr m) = absurd (true≢false (sym (e .0) ∙ lt-false (key k) (pivotAt pt i) (route-upper pt k w v i m l)))
 
--- ---- the same by the number of the pivots that are not above the key
+-- ---- the slot of a key by the number of the pivots that are not above it
 
 module _ (pt : PivotTable) (k : Key) (w : WFPivots pt ≡ true) (n : ℕ) (e : n ≡ lastPlace (passes false (key k)) pt) where
   -- where there is none, the key is below the first
@@ -208,12 +208,12 @@ module _ (pt : PivotTable) (k : Key) (w : WFPivots pt ≡ true) (n : ℕ) (e : n
 
     -- it is below the key
     module _ (f : lt (pivotAt pt (n - 1)) (key k) ≡ true) where
-      -- and the last pivot: then the key is above all
+      -- where that pivot is the last, the key is above all
       pub past-range : n ≡ length pt → ContainsRange pt (key k) (key k) ≡ false
       unfolding ContainsRange
       past-range z = rw (lt-false (lastPivot pt) (key k) (rw z at f)) (and-false (lte (pivotAt pt 0) (key k)))
 
-      -- or not the last: then the key lies strictly in its slot
+      -- where that pivot isn't the last, the key lies strictly in its slot
       pub in-slot : (n ≡ length pt → ⊥) → Strictly pt (n - 1) k
       in-slot z =
           let m = most in

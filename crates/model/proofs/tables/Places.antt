@@ -79,7 +79,7 @@ module _ {A : Type 0} (test : A → Bool) (xs : List A) (d : A) where
   pub place-after : (i : ℕ) → lastPlace test xs ≤ i → i < length xs → test (getD xs i d) ≡ false
   place-after = ends test xs d .after
 
-  -- and it is the only such place
+  -- the last place that passes is the only one that passes with none after it passing
   pub place-is : (n : ℕ) → n ≤ length xs → (0 < n → test (getD xs (n - 1) d) ≡ true)
       → ((i : ℕ) → n ≤ i → i < length xs → test (getD xs i d) ≡ false) → lastPlace test xs ≡ n
   place-is n h f g =
@@ -150,7 +150,7 @@ unfolding IsStrictlySorted
 sorted-of [] f = refl
 sorted-of (p ∷ pt) f = rises-of p pt f
 
--- and neither above itself nor above a later one
+-- of pivots that rise none is above itself or above a later one
 pub sorted-lte : (pt : PivotTable) (i j : ℕ) → IsStrictlySorted pt ≡ true → i ≤ j → j < length pt → lte (pivotAt pt i) (pivotAt pt j) ≡ true
 sorted-lte pt i j s h k =
     ⊎-elim (λ e. rw e (lte-refl (pivotAt pt j))) (λ l. lt-lte (pivotAt pt i) (pivotAt pt j) (sorted-at pt i j s l k)) (eq-or-lt-of-le h)

@@ -27,7 +27,7 @@ unfolding all
 sorted-keys p [] s = refl
 sorted-keys p (q ∷ pt) s = rw (below-key p q (sorted-head p q pt s)) (sorted-keys q pt (sorted-tail p (q ∷ pt) s))
 
--- and such a table of two pivots or more, none too long, is well formed
+-- a table of two pivots or more that rise strictly, none too long, is well formed
 pub wf-of : (pt : PivotTable) → IsStrictlySorted pt ≡ true → all shortElement pt ≡ true → 2 ≤ length pt → WFPivots pt ≡ true
 unfolding WFPivots
 wf-of [] s h k = absurd (omega arith)
@@ -129,7 +129,7 @@ module _ (pt : PivotTable) (k : Key) (w : WFPivots pt ≡ true) where
     pub route-below : lt (key k) (pivotAt pt (Route pt k + 1)) ≡ true
     route-below = let h = route-inside in route-upper (Route pt k + 1) (omega arith) (omega arith)
 
-    -- so the key is in the slot's range
+    -- a bounded key is in the range of the slot that it is routed to
     pub route-between : InBetween (pivotAt pt (Route pt k)) (pivotAt pt (Route pt k + 1)) k ≡ true
     route-between = rw (route-from, lt-false (key k) (pivotAt pt (Route pt k + 1)) route-below)
 
@@ -141,7 +141,7 @@ module _ (pt : PivotTable) (k : Key) (w : WFPivots pt ≡ true) where
     pub slot-bounded : BoundedKey pt k ≡ true
     slot-bounded = bounded-within pt k ∙ slot-within false (key k) pt w i h f above
 
-    -- and the slot is its route
+    -- a key in a slot's range has the slot as its route
     pub slot-is-route : i ≡ Route pt k
     unfolding Route LargestLte
     slot-is-route = let e = slot-place false (key k) pt w i h f above in omega arith
@@ -199,7 +199,7 @@ module _ (pt : PivotTable) (k : Key) (w : WFPivots pt ≡ true) where
     pub cutoff-left-valid : ValidLeftCutOffKey pt k ≡ true
     cutoff-left-valid = valid-within pt k ∙ slot-within true (key k) pt w i h f (ap not g)
 
-    -- and the slot is its left cut-off
+    -- a key above a slot's left pivot and not above its right one has the slot as its left cut-off
     pub cutoff-left-is : i ≡ CutoffForLeft pt k
     unfolding CutoffForLeft LargestLt
     cutoff-left-is = let e = slot-place true (key k) pt w i h f (ap not g) in omega arith
@@ -227,7 +227,7 @@ module _ (pt : PivotTable) (i : ℕ) (w : WFPivots pt ≡ true) (h : i < NumBuck
   pub pivot-bounded : BoundedKey pt (GetKey pt i) ≡ true
   pivot-bounded = slot-bounded pt (GetKey pt i) w i h from next
 
-  -- and its route is the slot on its right
+  -- the route of a pivot but the last is the slot on its right
   pub route-of-pivot : Route pt (GetKey pt i) ≡ i
   route-of-pivot = sym (slot-is-route pt (GetKey pt i) w i h from next)
 
@@ -236,7 +236,7 @@ pub init-wf : WFPivots InitPivotTable ≡ true
 unfolding WFPivots InitPivotTable IsStrictlySorted risesFrom lte all
 init-wf = refl
 
--- and contains all keys
+-- the first table contains all keys
 pub init-all : ContainsAllKeys InitPivotTable ≡ true
 unfolding ContainsAllKeys WFPivots InitPivotTable IsStrictlySorted risesFrom lte lteKey all
 init-all = refl
@@ -265,7 +265,7 @@ contains-range-bounded pt l r k h f g =
     let a = both (lte (pivotAt pt 0) l) (lte r (lastPivot pt)) h in
     bounded-by pt k (lte-trans (pivotAt pt 0) l (key k) (a .0) f) (lt-trans-lte (key k) r (lastPivot pt) g (a .1))
 
--- and one that bounds every key of at most 64 bytes of a range contains the range
+-- a table that bounds every key of at most 64 bytes of a range contains the range
 module _ (pt : PivotTable) (l : Key) (r : Element) (w : WFPivots pt ≡ true) (s : length l ≤ maxLen) (h : lt (key l) r ≡ true)
     (f : (k : Key) → length k ≤ maxLen → lte (key l) (key k) ≡ true → lt (key k) r ≡ true → BoundedKey pt k ≡ true) where
   left-bounded : (lte (pivotAt pt 0) (key l) ≡ true) × (lt (key l) (lastPivot pt) ≡ true)

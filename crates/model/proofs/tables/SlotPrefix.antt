@@ -37,7 +37,7 @@ module _ (pt : PivotTable) (w : WFPivots pt ≡ true) (t : BytesT pt) (i : ℕ) 
   slot-prefix-shared k b c r =
       rw left-is (shared l (pivotAt pt (i + 1)) k b (rw (r, left-is) at (route-between pt k w c)))
 
-  -- and whatever begins all of these, of at most 64 bytes, begins it
+  -- whatever begins all keys of the slot, of at most 64 bytes, begins the slot's prefix
   pub slot-prefix-longest : (p : Key)
       → ((k : Key) → Bytes k → length k ≤ maxLen → BoundedKey pt k ≡ true → Route pt k ≡ i → IsPrefix p k ≡ true)
       → IsPrefix p (PivotLcp (pivotAt pt i) (pivotAt pt (i + 1))) ≡ true
@@ -75,7 +75,7 @@ module _ (pt : PivotTable) (et : EdgeTable) (w : WFPivots pt ≡ true) (v : WFEd
       let (x, b) = first-byte (PivotLcp (pivotAt pt i) (pivotAt pt (i + 1))) (edge-over et pt i q v (omega arith) e) in
       (x, λ k c d r. prefix-trans (x ∷ []) _ k b (slot-prefix-shared pt w t i h k c d r))
 
-  -- and where they share it, an edge may stand
+  -- where all keys that Route sends to a slot share their first byte, an edge may stand there
   pub shares-edge : (x : ℕ) → ((k : Key) → Bytes k → length k ≤ maxLen → BoundedKey pt k ≡ true → Route pt k ≡ i → IsPrefix (x ∷ []) k ≡ true)
       → (q : Key) → edgeFits (PivotLcp (pivotAt pt i) (pivotAt pt (i + 1))) (edge q) ≡ true
   shares-edge x f q = go (PivotLcp (pivotAt pt i) (pivotAt pt (i + 1))) (slot-prefix-longest pt w t i h (x ∷ []) f)

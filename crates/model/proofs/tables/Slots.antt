@@ -30,7 +30,7 @@ pub record WellFormed (pt : PivotTable) : Type 0 where
 pub wf-says : (pt : PivotTable) → WFPivots pt ≡ true → WellFormed pt
 wf-says pt w = record { table = record { sorted = wf-sorted pt w; many = wf-count pt w }; short = wf-all-short pt w }
 
--- and WFPivots says no more
+-- WFPivots says no more than a well-formed table does
 pub says-wf : (pt : PivotTable) → WellFormed pt → WFPivots pt ≡ true
 says-wf pt w = wf-of pt (w .table .sorted) (w .short) (w .table .many)
 
@@ -68,7 +68,7 @@ module _ {pt : PivotTable} {i : ℕ} {x y : Element} (t : Table pt) (w : Inside 
       place-slot false x pt i (t .sorted) (w .slot) (w .from)
       (lt-false x (pivotAt pt (i + 1)) (lt-trans-lte x y (pivotAt pt (i + 1)) (w .rises) (w .upto)))
 
-  -- and those below its right end
+  -- the pivots up to the slot's first are those below the range's right end
   place-right : lastPlace (passes true y) pt ≡ i + 1
   place-right = place-slot true y pt i (t .sorted) (w .slot) (lte-trans-lt (pivotAt pt i) x y (w .from) (w .rises)) (ap not (w .upto))
 
@@ -116,7 +116,7 @@ module _ {pt : PivotTable} (t : Table pt) where
         upto = lte-refl (pivotAt pt (n - 1 + 1));
       }
 
-  -- and end in a slot at each element above the first pivot, and not above the last
+  -- a range may end in a slot at each element above the first pivot, and not above the last
   pub slot-upto : (y : Element) → lt (pivotAt pt 0) y ≡ true → lte y (lastPivot pt) ≡ true
       → Inside pt (LargestLt pt y) (pivotAt pt (LargestLt pt y)) y
   unfolding LargestLt

@@ -76,7 +76,7 @@ pub other-flag : (x : ℕ) (l : List ℕ) → 1 < x → wrongPair (x ∷ l) ≡ 
 unfolding wrongPair
 other-flag x l h = or-left (ltb 1 x) (notPair (stateAt (x ∷ l))) (lt-ltb 1 x h)
 
--- and cause 2 does not apply to it
+-- to the record of a pair that isn't long cause 2 does not apply
 pub right-pair : (o : Option PrefixSet) → longPair o ≡ false → wrongPair (encodePair o) ≡ false
 unfolding wrongPair
 right-pair o h = rw (flag-low o, read-pair o h, state-wrong o) h

@@ -35,7 +35,7 @@ module _ (s : PairState) (h : s .there ≡ false) where
   unfolding notPair
   absent-right = rw h
 
-  -- and stands for none, whatever its bytes
+  -- an absent pair stands for none, whatever its bytes
   pub absent-pair : pairOf s ≡ none
   unfolding pairOf
   absent-pair = rw h

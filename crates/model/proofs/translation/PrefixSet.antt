@@ -106,7 +106,7 @@ module _ (a b : Option PrefixSet) (k : Key) (h : Begins a k ≡ true) (j : Begin
   pub composed-begins : Begins (ComposePrefixSet a b) (ApplyPrefixSet b k) ≡ true
   composed-begins = composed a b k h j .begins
 
-  -- and the composed pair takes it to a's image
+  -- the composed pair takes b's image of k to a's image
   pub composed-image : ApplyPrefixSet (ComposePrefixSet a b) (ApplyPrefixSet b k) ≡ ApplyPrefixSet a k
   composed-image = composed a b k h j .image
 

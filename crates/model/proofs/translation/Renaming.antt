@@ -51,7 +51,7 @@ module _ (pt : PivotTable) (p q : Key) (end : Element) where
   unfolding TranslatePivots moved
   pivots-count h = omega (arith, length-append moved (end ∷ []), length-moved)
 
-  -- so the last one is the end
+  -- the last translated pivot is the end
   pub pivots-last : 0 < length pt → lastPivot (TranslatePivots pt p q end) ≡ end
   pivots-last h = rw (pivots-count h) pivots-end
 
@@ -76,7 +76,7 @@ module _ (pt : PivotTable) (p q : Key) (end : Element) (w : WFPivots pt ≡ true
   pub pivots-begin : (i : ℕ) → i < NumBuckets pt → IsPrefix q (keyOf (pivotAt (TranslatePivots pt p q end) i)) ≡ true
   pivots-begin i h = rw (moved-there i h) (change-begins p q (keyOf (pivotAt pt i)))
 
-  -- and translated back gives the pivot
+  -- a translated pivot, translated back, is the pivot
   pub pivots-back : (i : ℕ) → i < NumBuckets pt → TranslateElement q p (pivotAt (TranslatePivots pt p q end) i) ≡ pivotAt pt i
   pivots-back i h =
       ap (TranslateElement q p) (pivots-at pt p q end i h ∙ ap (TranslateElement p q) (key-there i h))
@@ -110,7 +110,7 @@ module _ (pt : PivotTable) (p q : Key) (end : Element) (w : WFPivots pt ≡ true
             let n = pivots-count pt p q end (omega (arith, some-pivots)) in
             ⊎-elim (λ (l : NumBuckets pt ≤ i + 1). next-end i (omega (arith, n))) (λ (l : i + 1 < NumBuckets pt). next-inside i l) (le-or-lt (NumBuckets pt) (i + 1))
 
-    -- and are well formed where none passes 64 bytes
+    -- translated pivots none of which passes 64 bytes are well formed
     pub pivots-wf : all shortElement (TranslatePivots pt p q end) ≡ true → WFPivots (TranslatePivots pt p q end) ≡ true
     pivots-wf s = wf-of (TranslatePivots pt p q end) pivots-rise s (omega (arith, pivots-count pt p q end (omega (arith, some-pivots)), some-pivots))
 

@@ -33,7 +33,7 @@ meetingCauses p e q f =
     ++ ((notMeeting (elements p) (elements q) ⇒ NotMeeting) ∷
     (tooManyPivots (joinedPivots p q) ⇒ TooManyPivots) ∷ [])
 
--- and 10; nothing is made longer, so there is no 8
+-- all causes of a joining: behind those of the tables that meet 10; nothing is made longer, so there is no 8
 abbrev pub joinCauses : List ℕ → List ℕ → List ℕ → List ℕ → List ℕ → List ℕ → List Cause
 joinCauses p e q f dp de =
     meetingCauses p e q f

@@ -43,7 +43,7 @@ pub record Joined (p e q f : List ℕ) (n : ℕ) (p′ e′ : List ℕ) : Type 0
   pub count : n + 1 ≡ length (elements p) + length (elements q)
   -- "A key in its range is in the range of exactly one half and translates as there"
   pub keys : (j : Key) → Bytes j → boundedKeyAnswer p′ j ≡ decided.Yes → OnlyIn p e q p′ e′ j ⊎ OnlyIn q f p p′ e′ j
-  -- and one that is not is in neither
+  -- a key that is not in its range is in that of neither half
   pub others : (j : Key) → boundedKeyAnswer p′ j ≡ decided.No → (boundedKeyAnswer p j ≡ decided.No) × (boundedKeyAnswer q j ≡ decided.No)
   -- cut at the meeting pivot it is the two halves again
   pub halves : (k : Key) → pivotAt (elements q) 0 ≡ key k → GivesBack true k p′ e′ p e × GivesBack false k p′ e′ q f

@@ -48,7 +48,7 @@ dot = 0x2e ∷ []
 unfoldable pub digit : ℕ → ℕ
 digit d = cond (ltb d 10) (0x30 + d) (0x57 + d)
 
--- a number below 100 in decimal: there are at most 63 slots, and refusals up to 10
+-- a number below 100 in decimal: there are at most 63 slots, and fifteen refusals
 unfoldable pub decimal : ℕ → List ℕ
 decimal n = cond (ltb n 10) (digit n ∷ []) (digit (n / 10) ∷ digit (n % 10) ∷ [])
 

@@ -1,7 +1,9 @@
 //! The picture: a row for each call, the one with the greatest ratio first. In a row is a lane for
 //! each key length, and in a lane a bar for each size, from the least of the ratio to the most.
+use crate::axis::{draw_axis, draw_sides, COLUMN_GAP, TOP};
 use crate::scale::Scale;
-use crate::svg::{Font, Svg};
+use crate::style::{colour, CALL, HEAD, NOTE, RULE, SLOW};
+use crate::svg::Svg;
 use crate::tables::{Case, Verdict};
 
 const TITLE: &str = "Time of a call: library / reference";
@@ -9,65 +11,17 @@ const TITLE: &str = "Time of a call: library / reference";
 const WIDTH: f64 = 900.0;
 /// What stays free at the edges.
 const MARGIN: f64 = 16.0;
-/// Where the axis begins and ends. Before it stand the names of the calls, after it what is slow.
+/// Where the axis begins; before it stand the names of the calls.
 const LEFT: f64 = 190.0;
-const RIGHT: f64 = 724.0;
-/// Where the rows begin, under the legend and the marks of the axis.
-const TOP: f64 = 116.0;
+/// Where the axis ends if a column of what is slow stands after it.
+const RIGHT: f64 = 700.0;
+/// Where the axis ends if nothing is slow: "slower →" still has room behind a bold line at its end.
+const RIGHT_ALONE: f64 = 824.0;
 const LEGEND_STEP: f64 = 280.0;
 const LANE_GAP: f64 = 1.5;
 const ROW_MARGIN: f64 = 3.0;
 const LEAST_ROW: f64 = 18.0;
 const LEAST_BAR: f64 = 3.0;
-
-const INK: &str = "#222222";
-const RULE: &str = "#d4d4d4";
-const SLOW_GROUND: &str = "#fdf0e6";
-
-const NOTE: Font = Font {
-    anchor: "start",
-    size: 12,
-    weight: "normal",
-    fill: INK,
-};
-const HEAD: Font = Font {
-    size: 16,
-    weight: "bold",
-    ..NOTE
-};
-const CALL: Font = Font {
-    anchor: "end",
-    ..NOTE
-};
-const TICK: Font = Font {
-    anchor: "middle",
-    ..NOTE
-};
-const EVEN: Font = Font {
-    weight: "bold",
-    ..TICK
-};
-const SLOW: Font = Font {
-    fill: "#a83f00",
-    ..NOTE
-};
-
-fn colour(verdict: Verdict) -> &'static str {
-    match verdict {
-        Verdict::Faster => "#0072b2",
-        Verdict::Neither => "#808080",
-        Verdict::Slower => "#c84c00",
-    }
-}
-
-fn bold(verdict: Verdict, anchor: &'static str) -> Font {
-    Font {
-        anchor,
-        weight: "bold",
-        fill: colour(verdict),
-        ..NOTE
-    }
-}
 
 fn lanes(row: &[Case]) -> impl Iterator<Item = &[Case]> {
     row.chunk_by(|a, b| a.key == b.key)
@@ -134,7 +88,7 @@ fn draw_row(svg: &mut Svg, scale: &Scale, row: &[Case], top: f64) {
     svg.rect([0.0, top, WIDTH, 0.5], RULE);
     svg.text([LEFT - 8.0, base], &CALL, &row[0].call);
     if let Some(words) = slow(row) {
-        svg.text([RIGHT + 8.0, base], &SLOW, &words);
+        svg.text([scale.end() + COLUMN_GAP, base], &SLOW, &words);
     }
     let mut top = middle - lanes_height(row) / 2.0;
     for lane in lanes(row) {
@@ -145,12 +99,13 @@ fn draw_row(svg: &mut Svg, scale: &Scale, row: &[Case], top: f64) {
 
 fn draw_head(svg: &mut Svg, cases: &[Case]) {
     svg.text([MARGIN, 26.0], &HEAD, TITLE);
-    svg.text(
-        [MARGIN, 46.0],
-        &NOTE,
-        "A bar is a case, from the least of its ratio at all placements to the most. \
-         In a row they stand as in the tables, short keys above.",
-    );
+    let notes = [
+        "A bar is a case, from the least of its ratio at all placements to the most.",
+        "In a row the bars stand as in the tables, short keys above.",
+    ];
+    for (i, note) in notes.into_iter().enumerate() {
+        svg.text([MARGIN, 46.0 + i as f64 * 16.0], &NOTE, note);
+    }
     let verdicts = [
         (Verdict::Slower, "slower at every placement"),
         (Verdict::Faster, "faster at every placement"),
@@ -162,42 +117,9 @@ fn draw_head(svg: &mut Svg, cases: &[Case]) {
             .iter()
             .filter(|case| case.verdict() == verdict)
             .count();
-        svg.rect([x, 58.0, 20.0, 8.0], colour(verdict));
-        svg.text([x + 26.0, 66.0], &NOTE, &format!("{words}: {count} cases"));
+        svg.rect([x, 74.0, 20.0, 8.0], colour(verdict));
+        svg.text([x + 26.0, 82.0], &NOTE, &format!("{words}: {count} cases"));
     }
-}
-
-/// The marks of the axis, and the ground under the bars.
-fn draw_axis(svg: &mut Svg, scale: &Scale, height: f64) {
-    let even = scale.x(1.0);
-    svg.rect([even, TOP, RIGHT - even, height], SLOW_GROUND);
-    let base = TOP - 6.0;
-    for tick in scale.ticks() {
-        let x = scale.x(tick);
-        if tick == 1.0 {
-            svg.rect([x - 1.0, TOP, 2.0, height], INK);
-            svg.text([x, base], &EVEN, "1.00");
-        } else {
-            svg.rect([x - 0.25, TOP, 0.5, height], RULE);
-            svg.text([x, base], &TICK, &tick.to_string());
-        }
-    }
-    let base = TOP - 22.0;
-    svg.text(
-        [even - 10.0, base],
-        &bold(Verdict::Faster, "end"),
-        "← faster",
-    );
-    svg.text(
-        [even + 10.0, base],
-        &bold(Verdict::Slower, "start"),
-        "slower →",
-    );
-    svg.text(
-        [RIGHT + 8.0, base],
-        &bold(Verdict::Slower, "start"),
-        "slower with",
-    );
 }
 
 /// The picture as text.
@@ -205,10 +127,13 @@ pub fn draw(cases: &[Case]) -> String {
     let rows = rows(cases);
     let height: f64 = rows.iter().map(|row| row_height(row)).sum();
     let ratios = cases.iter().flat_map(|case| [case.least, case.most]);
-    let scale = Scale::over(ratios, LEFT, RIGHT - LEFT);
+    let column = cases.iter().any(|case| case.verdict() == Verdict::Slower);
+    let right = if column { RIGHT } else { RIGHT_ALONE };
+    let scale = Scale::over(ratios, LEFT, right - LEFT);
     let mut svg = Svg::new(WIDTH, (TOP + height + MARGIN).ceil(), TITLE);
     draw_head(&mut svg, cases);
     draw_axis(&mut svg, &scale, height);
+    draw_sides(&mut svg, &scale, column);
     let mut top = TOP;
     for row in rows {
         draw_row(&mut svg, &scale, row, top);
@@ -248,5 +173,60 @@ mod tests {
         let words: Vec<_> = rows(&cases).into_iter().map(slow).collect();
         let wanted = [Some("3, 8 bytes"), Some("8 bytes, 2 or 8 pivots"), None];
         assert_eq!(words, wanted.map(|words| words.map(str::to_string)));
+    }
+    /// The texts of a picture: left and right end, base line, size, and the words.
+    fn texts(svg: &str) -> Vec<([f64; 4], &str)> {
+        let of_line = |line| {
+            let parts: Vec<&str> = str::split(line, '"').collect();
+            let number = |i: usize| parts[i].parse::<f64>().unwrap();
+            let (x, base, size) = (number(1), number(3), number(7));
+            let words = parts.last().unwrap().strip_prefix('>').unwrap();
+            let words = words.strip_suffix("</text>").unwrap();
+            let width = NOTE.width(words) * size / f64::from(NOTE.size);
+            let left = match parts[5] {
+                "start" => x,
+                "middle" => x - width / 2.0,
+                _ => x - width,
+            };
+            ([left, left + width, base, size], words)
+        };
+        let lines = svg.lines().filter(|line| line.starts_with("<text "));
+        lines.map(of_line).collect()
+    }
+
+    /// Tables whose one case has these ratios beside one that is a hundredth.
+    fn drawn(ratios: &str) -> String {
+        let table = "| call | key bytes | lib/ref |\n|---|---|---|\n| a | 3 | 0.01 |\n";
+        draw(&cases(&format!("{table}| b | 64 | {ratios} |\n")).unwrap())
+    }
+
+    #[test]
+    fn no_text_is_printed_over_another_or_past_the_edge() {
+        for ratios in ["0.01", "0.90", "0.97–1.09", "1.01", "1.10–1.45", "90–120"] {
+            let svg = drawn(ratios);
+            let texts = texts(&svg);
+            for (i, &([left, right, base, size], words)) in texts.iter().enumerate() {
+                assert!(left >= 0.0 && right <= WIDTH, "{ratios}: {words}");
+                for &([l, r, b, s], other) in &texts[..i] {
+                    let apart = r <= left || right <= l || (base - b).abs() >= size.min(s);
+                    assert!(apart, "{ratios}: {other} and {words}");
+                }
+            }
+        }
+    }
+
+    #[test]
+    fn a_column_only_where_a_case_is_slower() {
+        let words = |ratios| drawn(ratios).contains(">slower with</text>");
+        assert!(words("1.01–1.09"));
+        assert!(!words("0.97–1.09"));
+    }
+
+    #[test]
+    fn one_has_its_text_however_long_the_axis_is() {
+        for ratios in ["0.01", "0.97–1.09", "90–120"] {
+            let svg = drawn(ratios);
+            assert!(texts(&svg).iter().any(|(_, words)| *words == "1.00"));
+        }
     }
 }

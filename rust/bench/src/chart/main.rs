@@ -1,9 +1,13 @@
 //! Reads the tables that `placements` prints, or a document with them, and writes the chart of
 //! their ratios lib/ref as SVG.
+mod axis;
 mod drawing;
 mod scale;
+mod style;
 mod svg;
 mod tables;
+#[cfg(test)]
+mod words;
 
 use std::io::{self, Read};
 use std::process::ExitCode;

@@ -31,6 +31,11 @@ impl Scale {
         self.left + self.width * part
     }
 
+    /// Where the axis ends.
+    pub fn end(&self) -> f64 {
+        self.left + self.width
+    }
+
     /// The ratios to mark.
     pub fn ticks(&self) -> impl Iterator<Item = f64> + '_ {
         (-2..=2)

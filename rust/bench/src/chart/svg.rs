@@ -12,6 +12,16 @@ pub struct Font {
     pub fill: &'static str,
 }
 
+/// The width of a letter in parts of its height, at the most that a line of a usual font has.
+const LETTER: f64 = 0.6;
+
+impl Font {
+    /// What a text takes of a line. Fonts differ: this is rather too much than too little.
+    pub fn width(&self, text: &str) -> f64 {
+        text.chars().count() as f64 * f64::from(self.size) * LETTER
+    }
+}
+
 /// Left, top, width and height.
 pub type Area = [f64; 4];
 

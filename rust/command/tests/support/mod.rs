@@ -74,7 +74,7 @@ impl Ran {
         self.output
     }
 
-    /// The same, as text.
+    /// Status 0 and nothing on standard error: the output as text.
     #[track_caller]
     pub fn text(self) -> String {
         String::from_utf8(self.done()).expect("text")

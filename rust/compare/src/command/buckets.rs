@@ -81,7 +81,7 @@ impl<'a> Renaming<'a> {
         );
     }
 
-    /// The same where the bucket has a text: the result as text, or the same refusal.
+    /// The bucket lent as text, where it has one: the result as text, or the same refusal.
     fn text(&self, group: &mut Group) {
         let Some(bucket) = text_of(self.slices[0]) else {
             return;

@@ -96,7 +96,7 @@ pub fn limits(group: &mut Group) {
     at(&SPLIT_RIGHT, &over, &[0x41, 0x33], wanted);
 }
 
-/// The same in a translated key, and not in its pair.
+/// "produced 64 taken, 65 gives 8" in a translated key, and not in its pair.
 pub fn key_limits(group: &mut Group) {
     let pivots = pivots_of_t();
     let long = [0x43; 64];

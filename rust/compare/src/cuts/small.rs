@@ -37,7 +37,7 @@ pub fn tables(shared: &[u8]) -> Vec<Table> {
     tables_of(&pivot_keys(shared))
 }
 
-/// The same of other keys, which rise.
+/// All rising tables of two and three of these keys, which rise, the last also max.
 pub fn tables_of(keys: &[Vec<u8>]) -> Vec<Table> {
     let mut tables = vec![];
     let mut take = |chosen: &[&Vec<u8>], to_max| {
@@ -91,7 +91,7 @@ pub fn each_good_table(mut body: impl FnMut(&Table, &[Vec<u8>])) {
     });
 }
 
-/// The same, and each small key with all of them.
+/// All small tables that are well formed, and each small key with all of them.
 pub fn each_good(mut body: impl FnMut(&Table, &[u8], &[Vec<u8>])) {
     each_good_table(|table, keys| {
         for key in keys {
@@ -115,8 +115,8 @@ pub fn all_keys(group: &mut Group, call: &Call) {
     });
 }
 
-/// The same with edges of 64 bytes or none, all slots with a prefix, and destinations around
-/// what is written.
+/// A call on each small table and key, with edges of 64 bytes or none, all slots with a prefix,
+/// and destinations around what is written.
 pub fn destinations(group: &mut Group, call: &Call) {
     let [_, shared] = SHARED;
     let keys = keys_after(shared);

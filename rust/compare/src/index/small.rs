@@ -127,7 +127,7 @@ pub fn cuts(group: &mut Group) {
     }
 }
 
-/// The same where the index is right, with destinations around what is written; and where it is
+/// Cuts where the index is right, with destinations around what is written; and where it is
 /// wrong.
 pub fn cut_destinations(group: &mut Group) {
     for x in all().filter(is_good) {

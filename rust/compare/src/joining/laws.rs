@@ -162,7 +162,7 @@ pub fn random(group: &mut Group, count: usize) {
     tally.check(group);
 }
 
-/// The same of 62 to 66 pivots. Where there are 64, a key put in and its cuts joined give 12.
+/// The laws of tables of 62 to 66 pivots. Of 64, a key put in and its cuts joined give 12.
 pub fn around_most(group: &mut Group, count: usize) {
     let mut tally = Tally::default();
     let mut random = Xorshift::new(SEED);

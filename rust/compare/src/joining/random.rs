@@ -61,7 +61,7 @@ pub fn each_good(count: usize, mut body: impl FnMut([&Records; 2])) {
     }
 }
 
-/// The same of 62 to 67 pivots; and how many tables had more than 64, and how many hadn't.
+/// Halves of tables of 62 to 67 pivots; and how many tables had more than 64, and how many not.
 pub fn each_around_most(count: usize, mut body: impl FnMut([&Records; 2])) -> [usize; 2] {
     let mut random = Xorshift::new(SEED);
     let mut sorts = [0; 2];
