@@ -22,8 +22,8 @@ use Rattle.model.specs.calls.BucketCalls.{entriesRead}
 use Rattle.model.proofs.Lists.{getD-map, all-inside}
 use Rattle.model.proofs.records.Record.{key-read}
 use Rattle.model.proofs.records.Records.{piece-at}
-use Rattle.keys.specs.Padded.{Padded}
-use Rattle.keys.proofs.Elements.{told-below}
+use Rattle.keys.specs.Padded.{Padded, paddedOrder}
+use Rattle.keys.proofs.Padded.{padded-below}
 use Rattle.buckets.proofs.Places.{past-entries, length-entryBytes, entry-size}
 
 -- what is asked for past the last entry
@@ -69,9 +69,10 @@ module _ (l : List ℕ) (w : entriesRead (entryBytes l) ≡ true) (i : ℕ) (h :
       as-element (entryRecord (entryAt l i)) read-here .1 ∙ ap (λ (x : Entry). key (x .key)) (sym e)
 
 -- two records are told apart by what stands at their places
-module _ (l a b : List ℕ) (i : ℕ) (f : a ≡ entryRecord (entryAt l i)) (z : ℤ) (e : z ≡ cmp (element a) (element b)) where
-  pub below-told : ltZ (toZ w64 (ofZ w64 z)) (pos 0) ≡ lt (element (entryRecord (entryAt l i))) (element b)
-  below-told = rw (← f) (told-below (element a) (element b) z e)
+module _ (l : List ℕ) (w : entriesRead (entryBytes l) ≡ true) (a b : List ℕ) (i : ℕ) (f : a ≡ entryRecord (entryAt l i)) (z : ℤ) (e : z ≡ paddedOrder a b) where
+  pub below-told : i < length l / entrySize → Padded b → ltZ (toZ w64 (ofZ w64 z)) (pos 0) ≡ lt (element (entryRecord (entryAt l i))) (element b)
+  below-told h p = rw (← f) (padded-below a b (padded-here l w i h a f) p z e)
 
-  pub next-told : (j : ℕ) → b ≡ entryRecord (entryAt l j) → ltZ (toZ w64 (ofZ w64 z)) (pos 0) ≡ lt (element (entryRecord (entryAt l i))) (element (entryRecord (entryAt l j)))
-  next-told j g = rw (← g) below-told
+  pub next-told : i + 1 < length l / entrySize → b ≡ entryRecord (entryAt l (i + 1))
+      → ltZ (toZ w64 (ofZ w64 z)) (pos 0) ≡ lt (element (entryRecord (entryAt l i))) (element (entryRecord (entryAt l (i + 1))))
+  next-told h g = rw (← g) (below-told (omega arith) (padded-here l w (i + 1) h b g))

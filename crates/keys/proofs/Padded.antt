@@ -1,28 +1,30 @@
 -- The order of two keys by whole words and then by the rest, and of two records whose keys have zeros after them.
 use mathlib.Core.Path.{_≡_, refl, sym, ap, _∙_}
 use mathlib.Core.Logic.{_⊎_, inl, inr, ⊎-elim}
-use mathlib.Core.Bool.{Bool, true, false, cond, not, false≢true}
+use mathlib.Core.Bool.{Bool, true, false, cond, not, _||_, false≢true}
 use mathlib.Core.List.{List}
 use Prim.Native.Nat.{ℕ, _+_, _*_, _-_, _/_, _≤_, _<_, min}
 use native.Mathlib.Omega.{arith}
-use borrow.Author.Tests.{ne-eqb, lt-ltb, le-ltb, leb-true, leb-false, not-false}
+use borrow.Author.Tests.{ne-eqb, lt-ltb, le-ltb, ltb-true, ltb-false, leb-true, leb-false, not-false}
 use lib.Dec.{eqb, ltb, leb}
 use lib.IntN.{ℤ, pos, negsuc}
-use lib.ListN.{length, take, drop, length-drop}
+use lib.Signed.{ltZ}
+use lib.ListN.{length, take, drop, length-drop, drop-of-length-le}
 use lib.Seq.{drop-drop, take-all}
 use mir.Syntax.{w64}
 use mir.Val.{toZ, ofZ}
 use mir.Facts.{toZ-ofZ}
 use Rattle.model.specs.declared.Reading.{Reading}
 use Rattle.model.specs.declared.Reading.the-variants as reads
-use Rattle.model.specs.keys.Order.{Element, key, max, lte, cmp}
+use Rattle.model.specs.keys.Key.{maxLen}
+use Rattle.model.specs.keys.Order.{Element, key, max, lte, lt, cmp}
 use Rattle.model.specs.records.Record.{recordSize, maxMark, lengthField, allZero, reading, elementReading, keyBytes, element}
 use Rattle.model.proofs.Lists.{rest}
 use Rattle.model.proofs.keys.Parts.{first-decides, rest-decides, padded-decides, length-decides}
 use Rattle.model.proofs.records.Record.{Read, key-read, max-read}
 use Rattle.scan.specs.Word.{whole}
-use Rattle.keys.specs.Padded.{Padded, ordered}
-use Rattle.keys.proofs.Elements.{sign-fits, passed-on}
+use Rattle.keys.specs.Padded.{Padded, ordered, decided, words, paddedOrder}
+use Rattle.keys.proofs.Elements.{sign-fits, passed-on, told-below}
 
 -- 0 is the machine's 0
 machine-zero : (z : ℤ) → z ≡ pos 0 → ofZ w64 z ≡ 0
@@ -140,34 +142,120 @@ module _ (a b : List ℕ) (p : Padded a) (q : Padded b) where
         (tail-zero a p h) (tail-zero b q k) d
         ∙ rw (other-test (lengthField a) (lengthField b), other-test (lengthField b) (lengthField a))
 
--- ---- the returns of the comparison
+-- ---- the order of two records by their bytes
+
+-- an order is 0 or it isn't
+zero-or : (x y : Element) → (cmp x y ≡ pos 0) ⊎ (cmp x y ≡ pos 0 → ⊥)
+unfolding cmp
+zero-or x y = go (lt x y) (lt y x)
+  where
+    go : (s t : Bool) → (cond s (negsuc 0) (cond t (pos 1) (pos 0)) ≡ pos 0) ⊎ (cond s (negsuc 0) (cond t (pos 1) (pos 0)) ≡ pos 0 → ⊥)
+    go true t = inr (λ e. false≢true (sym (ap (λ (z : ℤ). ltZ z (pos 0)) e)))
+    go false true = inr (λ e. false≢true (sym (ap (λ (z : ℤ). ltZ (pos 0) z) e)))
+    go false false = inl refl
+
+decided-differ : (x y : Element) (w : ℤ) → (cmp x y ≡ pos 0 → ⊥) → cmp x y ≡ decided x y w
+unfolding cmp
+decided-differ x y w d = go (lt x y) (lt y x) d
+  where
+    go : (s t : Bool) → (cond s (negsuc 0) (cond t (pos 1) (pos 0)) ≡ pos 0 → ⊥) → cond s (negsuc 0) (cond t (pos 1) (pos 0)) ≡ cond s (negsuc 0) (cond t (pos 1) w)
+    go true t h = refl
+    go false true h = refl
+    go false false h = absurd (h refl)
+
+decided-agree : (x y : Element) (w : ℤ) → cmp x y ≡ pos 0 → w ≡ decided x y w
+unfolding cmp
+decided-agree x y w e = go (lt x y) (lt y x) e
+  where
+    go : (s t : Bool) → cond s (negsuc 0) (cond t (pos 1) (pos 0)) ≡ pos 0 → w ≡ cond s (negsuc 0) (cond t (pos 1) w)
+    go true t h = absurd (false≢true (sym (ap (λ (z : ℤ). ltZ z (pos 0)) h)))
+    go false true h = absurd (false≢true (sym (ap (λ (z : ℤ). ltZ (pos 0) z) h)))
+    go false false h = refl
+
+module _ (a b : List ℕ) where
+  by-left : maxLen < lengthField a → paddedOrder a b ≡ ordered (lengthField a) (lengthField b)
+  unfolding paddedOrder
+  by-left h = rw (lt-ltb maxLen (lengthField a) h)
+
+  by-right : maxLen < lengthField b → paddedOrder a b ≡ ordered (lengthField a) (lengthField b)
+  unfolding paddedOrder
+  by-right h = rw (lt-ltb maxLen (lengthField b) h) (go (ltb maxLen (lengthField a)))
+    where
+      go : (t : Bool) → cond (t || true) (ordered (lengthField a) (lengthField b)) (decided (words a b a) (words a b b) (ordered (lengthField a) (lengthField b))) ≡ ordered (lengthField a) (lengthField b)
+      go true = refl
+      go false = refl
+
+  by-words : lengthField a ≤ maxLen → lengthField b ≤ maxLen → paddedOrder a b ≡ decided (words a b a) (words a b b) (ordered (lengthField a) (lengthField b))
+  unfolding paddedOrder
+  by-words h k = rw (le-ltb maxLen (lengthField a) h, le-ltb maxLen (lengthField b) k)
+
+-- ---- its returns
+
+-- after the field of fewer than two bytes there is nothing
+pub none-after : (r : List ℕ) → length r < 2 → take 0 r ≡ drop 2 r
+none-after r h = let e : length r ≤ 2 = omega arith in sym (drop-of-length-le r e)
+
+module _ (a b : List ℕ) (x y : ℕ) (e : x ≡ lengthField a) (f : y ≡ lengthField b) (z : ℤ) (g : z ≡ ordered x y) where
+  pub left-mark : 64 < x → toZ w64 (ofZ w64 z) ≡ paddedOrder a b
+  left-mark h = ordered-fits x y z g ∙ rw (e, f) (sym (by-left a b (rw (← e) h)))
+
+  pub right-mark : 64 < y → toZ w64 (ofZ w64 z) ≡ paddedOrder a b
+  right-mark h = ordered-fits x y z g ∙ rw (e, f) (sym (by-right a b (rw (← f) h)))
+
+module _ (a b : List ℕ) (x y : ℕ) (e : x ≡ lengthField a) (f : y ≡ lengthField b) (h : x ≤ 64) (k : y ≤ 64) (s t : List ℕ) (m : s ≡ drop 2 a) (n : t ≡ drop 2 b)
+    (z : ℤ) (g : z ≡ cmp (key (take (whole s t) s)) (key (take (whole s t) t))) where
+  told : toZ w64 (ofZ w64 z) ≡ cmp (words a b a) (words a b b)
+  told = passed-on (words a b a) (words a b b) z (rw (m, n) at g)
+
+  pub words-differ : (ofZ w64 z ≡ 0 → ⊥) → toZ w64 (ofZ w64 z) ≡ paddedOrder a b
+  words-differ d =
+      told
+      ∙ decided-differ (words a b a) (words a b b) (ordered (lengthField a) (lengthField b)) (λ o. d (machine-zero z (g ∙ rw (m, n) o)))
+      ∙ sym (by-words a b (rw (← e) h) (rw (← f) k))
+
+  pub words-agree : (v : ℤ) → ofZ w64 z ≡ 0 → v ≡ ordered x y → toZ w64 (ofZ w64 v) ≡ paddedOrder a b
+  words-agree v d u =
+      ordered-fits x y v u
+      ∙ rw (e, f) (decided-agree (words a b a) (words a b b) (ordered (lengthField a) (lengthField b)) (sym told ∙ ap (toZ w64) d))
+      ∙ sym (by-words a b (rw (← e) h) (rw (← f) k))
+
+-- ---- of records that are read as elements it is the order of what they stand for
 
 -- 64 bytes are whole words
-all-words : (a b : List ℕ) → length a ≡ 66 → length b ≡ 66
-    → (take (whole (drop 2 a) (drop 2 b)) (drop 2 a) ≡ drop 2 a) × (take (whole (drop 2 a) (drop 2 b)) (drop 2 b) ≡ drop 2 b)
+all-words : (a b : List ℕ) → length a ≡ 66 → length b ≡ 66 → (words a b a ≡ key (drop 2 a)) × (words a b b ≡ key (drop 2 b))
 unfolding whole
 all-words a b h k =
     let e = length-drop 2 a in
     let f = length-drop 2 b in
-    (take-all (min (length (drop 2 a)) (length (drop 2 b)) / 8 * 8) (drop 2 a) (omega arith), take-all (min (length (drop 2 a)) (length (drop 2 b)) / 8 * 8) (drop 2 b) (omega arith))
+    (ap key (take-all (min (length (drop 2 a)) (length (drop 2 b)) / 8 * 8) (drop 2 a) (omega arith)), ap key (take-all (min (length (drop 2 a)) (length (drop 2 b)) / 8 * 8) (drop 2 b) (omega arith)))
 
-module _ (a b : List ℕ) (x y : ℕ) (p : Padded a) (q : Padded b) (e : x ≡ lengthField a) (f : y ≡ lengthField b) (z : ℤ) (g : z ≡ ordered x y) where
-  pub left-mark : 64 < x → toZ w64 (ofZ w64 z) ≡ cmp (element a) (element b)
-  left-mark h = ordered-fits x y z g ∙ rw (e, f) (by-fields a b p q (inl (rw (← e) h)))
+module _ (a b : List ℕ) (p : Padded a) (q : Padded b) where
+  keys-ordered : lengthField a ≤ maxLen → lengthField b ≤ maxLen → decided (key (drop 2 a)) (key (drop 2 b)) (ordered (lengthField a) (lengthField b)) ≡ cmp (element a) (element b)
+  keys-ordered h k =
+      ⊎-elim
+      (λ (z : cmp (key (drop 2 a)) (key (drop 2 b)) ≡ pos 0). sym (decided-agree (key (drop 2 a)) (key (drop 2 b)) (ordered (lengthField a) (lengthField b)) z) ∙ sym (padded-lengths a b p q h k z))
+      (λ (d : cmp (key (drop 2 a)) (key (drop 2 b)) ≡ pos 0 → ⊥). sym (decided-differ (key (drop 2 a)) (key (drop 2 b)) (ordered (lengthField a) (lengthField b)) d) ∙ sym (padded-words a b p q h k d))
+      (zero-or (key (drop 2 a)) (key (drop 2 b)))
 
-  pub right-mark : 64 < y → toZ w64 (ofZ w64 z) ≡ cmp (element a) (element b)
-  right-mark h = ordered-fits x y z g ∙ rw (e, f) (by-fields a b p q (inr (rw (← f) h)))
+  pub padded-elements : paddedOrder a b ≡ cmp (element a) (element b)
+  padded-elements = go (ltb maxLen (lengthField a)) (ltb maxLen (lengthField b)) refl refl
+    where
+      go : (s t : Bool) → ltb maxLen (lengthField a) ≡ s → ltb maxLen (lengthField b) ≡ t → paddedOrder a b ≡ cmp (element a) (element b)
+      go true t e f = let h = ltb-true maxLen (lengthField a) e in by-left a b h ∙ by-fields a b p q (inl h)
+      go false true e f = let h = ltb-true maxLen (lengthField b) f in by-right a b h ∙ by-fields a b p q (inr h)
+      go false false e f =
+          let h = ltb-false maxLen (lengthField a) e in
+          let k = ltb-false maxLen (lengthField b) f in
+          let w = all-words a b (p .0) (q .0) in
+          by-words a b h k ∙ rw (w .0, w .1) (keys-ordered h k)
 
-module _ (a b : List ℕ) (x y : ℕ) (p : Padded a) (q : Padded b) (e : x ≡ lengthField a) (f : y ≡ lengthField b) (h : x ≤ 64) (k : y ≤ 64) (z : ℤ)
-    (g : z ≡ cmp (key (take (whole (take (length a - 2) (drop 2 a)) (take (length b - 2) (drop 2 b))) (take (length a - 2) (drop 2 a)))) (key (take (whole (take (length a - 2) (drop 2 a)) (take (length b - 2) (drop 2 b))) (take (length b - 2) (drop 2 b))))) where
-  said-z : z ≡ cmp (key (drop 2 a)) (key (drop 2 b))
-  said-z = let w = all-words a b (p .0) (q .0) in rw (rest a 2, rest b 2, w .0, w .1) at g
+  pub padded-told : (z : ℤ) → z ≡ paddedOrder a b → toZ w64 (ofZ w64 z) ≡ cmp (element a) (element b)
+  padded-told z e = passed-on (element a) (element b) z (e ∙ padded-elements)
 
-  told : toZ w64 (ofZ w64 z) ≡ cmp (key (drop 2 a)) (key (drop 2 b))
-  told = passed-on (key (drop 2 a)) (key (drop 2 b)) z said-z
+  pub padded-below : (z : ℤ) → z ≡ paddedOrder a b → ltZ (toZ w64 (ofZ w64 z)) (pos 0) ≡ lt (element a) (element b)
+  padded-below z e = told-below (element a) (element b) z (e ∙ padded-elements)
 
-  pub words-differ : (ofZ w64 z ≡ 0 → ⊥) → toZ w64 (ofZ w64 z) ≡ cmp (element a) (element b)
-  words-differ d = told ∙ sym (padded-words a b p q (rw (← e) h) (rw (← f) k) (λ t. d (machine-zero z (said-z ∙ t))))
-
-  pub words-agree : (v : ℤ) → ofZ w64 z ≡ 0 → v ≡ ordered x y → toZ w64 (ofZ w64 v) ≡ cmp (element a) (element b)
-  words-agree v d u = ordered-fits x y v u ∙ rw (e, f) (sym (padded-lengths a b p q (rw (← e) h) (rw (← f) k) (sym told ∙ ap (toZ w64) d)))
+-- both were found to be elements'
+pub elements-told : (a b : List ℕ) (s t : Bool) (z : ℤ) → length a ≡ 66 → length b ≡ 66 → s ≡ elementReading (reading a) → not s ≡ false
+    → t ≡ elementReading (reading b) → not t ≡ false → z ≡ paddedOrder a b → toZ w64 (ofZ w64 z) ≡ cmp (element a) (element b)
+elements-told a b s t z l m e h f k g = padded-told a b (l, held a s e h) (m, held b t f k) z g

@@ -1,5 +1,5 @@
 // Keys and order: comparing elements, the key of a record or an entry, changing a prefix.
-// No call has a `requires`; of the leaves for other crates `compare_padded` has one.
+// No public function has a `requires`.
 mod change;
 mod order;
 mod read;

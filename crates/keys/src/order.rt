@@ -6,7 +6,8 @@ ghost use mathlib.Core.Path.{_≡_};
 ghost use Rattle.model.specs.keys.Order.{key, lt, cmp, passes};
 ghost use Rattle.model.specs.records.Record.{element};
 ghost use Rattle.model.specs.calls.KeyCalls.{compareAnswer};
-ghost use Rattle.keys.specs.Padded.{Padded, ordered};
+ghost use lib.ListN.{drop};
+ghost use Rattle.keys.specs.Padded.{ordered, paddedOrder};
 
 // The order of two keys by single bytes.
 fn compare_bytes(a: &[u8], b: &[u8]) -> i64
@@ -69,11 +70,21 @@ fn compare_fields(x: u16, y: u16) -> i64
     0
 }
 
-// The order of what two records stand for that are read as elements. The zeros after a key let both be compared by words
-// to their end; where the words agree, or one is max, the length fields decide.
+// The bytes after a record's length field.
+fn after_field(rec: &[u8]) -> &[u8]
+    ensures { λ r. ⌜ now r ≡ drop 2 (now (rec .entry)) ⌝ }
+{
+    if rec.len() < 2 {
+        return &rec[..0];
+    }
+    &rec[2..]
+}
+
+// The order of two records by their bytes: -1, 0 or 1. Of records that are read as elements it is the order of what they
+// stand for (law `padded-elements`): the zeros after a key let both be compared by words to their end, and where the words
+// agree, or one is max, the length fields decide.
 pub fn compare_padded(a: &[u8], b: &[u8]) -> i64
-    requires { ⌜ Padded (now a) × Padded (now b) ⌝ }
-    ensures { λ r. ⌜ r ≡ cmp (element (now (a .entry))) (element (now (b .entry))) ⌝ }
+    ensures { λ r. ⌜ r ≡ paddedOrder (now (a .entry)) (now (b .entry)) ⌝ }
 {
     let x = records::length_field(a);
     let y = records::length_field(b);
@@ -83,7 +94,7 @@ pub fn compare_padded(a: &[u8], b: &[u8]) -> i64
     if 64 < y {
         return compare_fields(x, y);
     }
-    let order = scan::order_words(&a[2..], &b[2..]);
+    let order = scan::order_words(after_field(a), after_field(b));
     if order != 0 {
         return order;
     }

@@ -14,7 +14,7 @@ use mir.Syntax.{w64}
 use Rattle.model.specs.declared.Reading.{Reading}
 use Rattle.model.specs.declared.Reading.the-variants.{Key, Malformed, NoEdge, Max}
 use Rattle.model.specs.keys.Key.{maxLen}
-use Rattle.model.specs.records.Record.{lengthField, fieldReading, keyLength, reading, allZero, keyBytes, allowed, recordSize, records}
+use Rattle.model.specs.records.Record.{lengthField, noEdgeMark, maxMark, fieldReading, keyLength, reading, allZero, keyBytes, allowed, recordSize, records}
 use Rattle.model.specs.inner.Places.{recordAt}
 use Rattle.model.proofs.Lists.{take-min}
 use Rattle.model.proofs.records.Records.{length-pieces, piece-at}
@@ -44,56 +44,67 @@ module _ (n : ℕ) where
 
 pub ruleset ways = (way-key, way-none, way-max, way-other)
 
--- ---- the whole record
-
-module _ (r : List ℕ) (n k : ℕ) (z : Bool) (e : n ≡ lengthField r) (g : k ≡ 2 + keyLength (fieldReading n)) (p : z ≡ allZero (drop k r)) where
-  pub read-whole : (w : Reading) → w ≡ fieldReading n → z ≡ true → w ≡ reading r
-  unfolding reading
-  read-whole w f q = rw (← e, ← g, ← p, q) f
-
-  pub read-spoilt : z ≡ false → Malformed ≡ reading r
-  unfolding reading
-  read-spoilt q = rw (← e, ← g, ← p, q)
-
--- ---- what is asked of a record's reading
-
--- a key may stand everywhere
-pub key-stands : (n : ℕ) (noEdge max : Bool) → n < 65 → true ≡ allowed noEdge max (fieldReading n)
-key-stands n noEdge max h = ap (allowed noEdge max) (way-key n n refl h)
-
-pub told-stands : (n : ℕ) (noEdge max t : Bool) (w : Reading) → w ≡ fieldReading n → t ≡ allowed noEdge max w → t ≡ allowed noEdge max (fieldReading n)
-told-stands n noEdge max t w e h = rw (← e) h
-
--- where the zeros begin, after a key and in a mark
-pub key-tail : (n k : ℕ) → n < 65 → k ≡ n → 2 + k ≡ 2 + keyLength (fieldReading n)
-key-tail n k h e = rw (← way-key n k e h)
-
-pub mark-tail : (n : ℕ) → 65 ≤ n → 2 ≡ 2 + keyLength (fieldReading n)
+-- a field that is read as a key's is at most 64
+pub key-short : (n : ℕ) (w : Reading) → w ≡ fieldReading n → keyLength w ≤ 64
 unfolding fieldReading
-mark-tail n h = rw (lt-leb n maxLen (omega arith)) (go (eqb n 65534) (eqb n 65535))
+key-short n w e = rw e (go (leb n maxLen) refl (eqb n noEdgeMark) (eqb n maxMark))
   where
-    go : (s t : Bool) → 2 ≡ 2 + keyLength (cond s NoEdge (cond t Max Malformed))
-    go true t = refl
-    go false true = refl
-    go false false = refl
+    go : (s : Bool) → leb n maxLen ≡ s → (t u : Bool) → keyLength (cond s (Key n) (cond t NoEdge (cond u Max Malformed))) ≤ 64
+    go true h t u = leb-true n maxLen h
+    go false h true u = omega arith
+    go false h false true = omega arith
+    go false h false false = omega arith
+
+-- ---- where the zeros begin, after a key and in a mark
+
+module _ (w : Reading) where
+  pub key-tail : (n : ℕ) → w ≡ Key n → 2 + n ≡ 2 + keyLength w
+  key-tail n e = rw e
+
+  pub malformed-tail : w ≡ Malformed → 2 ≡ 2 + keyLength w
+  malformed-tail e = rw e
+
+  pub none-tail : w ≡ NoEdge → 2 ≡ 2 + keyLength w
+  none-tail e = rw e
+
+  pub max-tail : w ≡ Max → 2 ≡ 2 + keyLength w
+  max-tail e = rw e
+
+  pub tail-fits : (n : ℕ) → keyLength w ≤ 64 → w ≡ Key n → Fits w64 (2 + n)
+  tail-fits n h e = let k : n ≤ 64 = rw e at h in record { fits = omega arith }
+
+pub ruleset tails = (key-tail, malformed-tail, none-tail, max-tail, tail-fits)
+
+-- ---- the whole record
 
 -- nothing is allowed where all must be zero and is not
 spoilt-fails : (noEdge max z : Bool) (w : Reading) → allowed noEdge max (cond z w Malformed) ≡ (allowed noEdge max w && z)
 spoilt-fails noEdge max true w = sym (and-true (allowed noEdge max w))
 spoilt-fails noEdge max false w = sym (and-false (allowed noEdge max w))
 
-module _ (r : List ℕ) (n : ℕ) (noEdge max t : Bool) (e : n ≡ lengthField r) (f : t ≡ allowed noEdge max (fieldReading n)) where
-  told : allowed noEdge max (reading r) ≡ (t && allZero (drop (2 + keyLength (fieldReading n)) r))
-  unfolding reading
-  told = rw (f, e) (spoilt-fails noEdge max _ (fieldReading (lengthField r)))
+module _ (r : List ℕ) (n : ℕ) (w : Reading) (e : n ≡ lengthField r) (f : w ≡ fieldReading n) where
+  module _ (k : ℕ) (z : Bool) (g : k ≡ 2 + keyLength w) (p : z ≡ allZero (drop k r)) where
+    pub read-whole : z ≡ true → w ≡ reading r
+    unfolding reading
+    read-whole q = rw (← e, ← f, ← g, ← p, q)
 
-  -- a field that may not stand there
-  pub not-standing : not t ≡ true → false ≡ allowed noEdge max (reading r)
-  not-standing h = sym (told ∙ rw (not-true t h))
+    pub read-spoilt : z ≡ false → Malformed ≡ reading r
+    unfolding reading
+    read-spoilt q = rw (← e, ← f, ← g, ← p, q)
 
-  -- and one that may, with what follows
-  pub standing : (k : ℕ) (z : Bool) → not t ≡ false → k ≡ 2 + keyLength (fieldReading n) → z ≡ allZero (drop k r) → z ≡ allowed noEdge max (reading r)
-  standing k z h g p = p ∙ rw g (sym (told ∙ rw (not-false t h)))
+  -- what is asked of a record's reading
+  module _ (noEdge max t : Bool) (h : t ≡ allowed noEdge max w) where
+    told : allowed noEdge max (reading r) ≡ (t && allZero (drop (2 + keyLength w) r))
+    unfolding reading
+    told = rw (h, ← e, ← f) (spoilt-fails noEdge max _ w)
+
+    -- a field that may not stand there
+    pub not-standing : not t ≡ true → false ≡ allowed noEdge max (reading r)
+    not-standing q = sym (told ∙ rw (not-true t q))
+
+    -- and one that may, with what follows
+    pub standing : (k : ℕ) (z : Bool) → not t ≡ false → k ≡ 2 + keyLength w → z ≡ allZero (drop k r) → z ≡ allowed noEdge max (reading r)
+    standing k z q g p = p ∙ rw g (sym (told ∙ rw (not-false t q)))
 
 -- a mark is told by the length field
 pub mark-told : (r : List ℕ) (n mark : ℕ) → n ≡ lengthField r → eqb n mark ≡ eqb (lengthField r) mark

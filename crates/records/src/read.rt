@@ -38,23 +38,26 @@ pub fn field_reading(n: u16) -> Reading
     }
 }
 
-// The place in a record from which on all must be zero, by its length field.
-fn tail_of(n: u16) -> usize
-    ensures { λ r. ⌜ r ≡ 2 + keyLength (fieldReading n) ⌝ }
+// The place in a record from which on all must be zero, by how its length field is read.
+fn tail_of(way: Reading) -> usize
+    requires { ⌜ keyLength way ≤ 64 ⌝ }
+    ensures { λ r. ⌜ r ≡ 2 + keyLength way ⌝ }
 {
-    if n < 65 {
-        return 2 + wide(n);
+    match way {
+        Reading::Key(n) => 2 + n,
+        Reading::Malformed => 2,
+        Reading::NoEdge => 2,
+        Reading::Max => 2,
     }
-    2
 }
 
 // What a record says.
 pub fn read_record(rec: &[u8]) -> Reading
     ensures { λ r. ⌜ r ≡ reading (now (rec .entry)) ⌝ }
 {
-    let n = length_field(rec);
-    if scan::zero_from(rec, tail_of(n)) {
-        return field_reading(n);
+    let way = field_reading(length_field(rec));
+    if scan::zero_from(rec, tail_of(way)) {
+        return way;
     }
     Reading::Malformed
 }
@@ -85,25 +88,15 @@ fn allows(way: Reading, empty: bool, max: bool) -> bool
     }
 }
 
-// Whether a length field may stand: a key's, tested first, or a mark that is allowed.
-fn stands(n: u16, empty: bool, max: bool) -> bool
-    ensures { λ r. ⌜ r ≡ allowed empty max (fieldReading n) ⌝ }
-{
-    if n < 65 {
-        return true;
-    }
-    allows(field_reading(n), empty, max)
-}
-
 // Whether a record is a key's or, where they are allowed, "no edge" or max.
 pub fn holds(rec: &[u8], empty: bool, max: bool) -> bool
     ensures { λ r. ⌜ r ≡ allowed empty max (reading (now (rec .entry))) ⌝ }
 {
-    let n = length_field(rec);
-    if !stands(n, empty, max) {
+    let way = field_reading(length_field(rec));
+    if !allows(way, empty, max) {
         return false;
     }
-    scan::zero_from(rec, tail_of(n))
+    scan::zero_from(rec, tail_of(way))
 }
 
 // Whether a record is a key's or max.

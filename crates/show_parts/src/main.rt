@@ -1,9 +1,12 @@
-// Calls the four functions that hand back a part of what they are lent, and prints each part: a line of hexadecimal,
-// `-` where the part is empty.
+// Calls the functions that no other program reaches, and prints what each gives, a line of hexadecimal, `-` where it is
+// empty: the four that hand back a part of what they are lent, and the pair by value applied to a key.
 use libc::STDOUT_FILENO;
+use model::Answer;
 use model::ENTRY_SIZE;
+use model::MAX_LEN;
 use model::PLACE_SIZE;
 use model::RECORD_SIZE;
+use pairs::PrefixSet;
 ghost use mathlib.Core.Path.{_≡_};
 ghost use lib.ListN.{length};
 
@@ -73,6 +76,17 @@ fn show_slot(a: &[u8], b: &[u8], slot: usize) {
     print_part(indexes::slot_entries_part(&pivots, &bucket, &index, slot));
 }
 
+// What a pair makes of a key.
+fn show_applied(pair: PrefixSet, key: &[u8]) {
+    let mut dest = [0u8; MAX_LEN];
+    let applied = pair.apply(key, &mut dest);
+    let Answer::Value(n) = applied else {
+        io::write_all(STDOUT_FILENO, b"refused\n");
+        return;
+    };
+    print_part(&dest[..scan::least(n, MAX_LEN)]);
+}
+
 fn main() {
     // a key, the empty key, max, no edge, a length of 65, a byte after the key
     io::write_all(STDOUT_FILENO, b"pivot_key_part\n");
@@ -102,4 +116,11 @@ fn main() {
     show_slot(b"c", b"d", 0);
     show_slot(b"a", b"c", 2);
     show_slot(b"c", b"a", 0);
+    // 41 changed to 43 in 41 30, the same pair reversed, an absent pair, and a key that the old prefix doesn't begin
+    io::write_all(STDOUT_FILENO, b"PrefixSet::apply\n");
+    let pair = PrefixSet::of(b"A", b"C");
+    show_applied(pair, b"A0");
+    show_applied(pair.reverse().pair, b"C0");
+    show_applied(PrefixSet::absent(), b"A0");
+    show_applied(pair, b"C0");
 }

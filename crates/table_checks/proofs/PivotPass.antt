@@ -26,8 +26,8 @@ use Rattle.model.specs.tables.Tables.{PivotTable, minPivots, maxPivots, pivotAt
 use Rattle.model.specs.calls.Refusals.{outcome, answer}
 use Rattle.model.specs.calls.TableCalls.{notPivotCount, pivotsRead, pivotCauses}
 use Rattle.model.proofs.keys.Key.{both}
-use Rattle.keys.specs.Padded.{Padded}
-use Rattle.keys.proofs.Elements.{told-below}
+use Rattle.keys.specs.Padded.{paddedOrder}
+use Rattle.keys.proofs.Padded.{padded-below}
 use Rattle.model.proofs.calls.TableCalls.{length-records, length-elements, record-length, element-at}
 
 -- ---- a list of records, and of pivots, from a place on
@@ -170,13 +170,11 @@ module _ (p : List ℕ) (i : ℕ) (rises : Bool) (w : Pass p i rises) where
 
 -- one comparison more
 module _ (p a b : List ℕ) (i : ℕ) (e : a ≡ recordAt p i) (f : b ≡ recordAt p (i + 1)) where
-  pub one-more : (rises : Bool) (z : ℤ) → rises ≡ true → z ≡ cmp (element a) (element b)
-      → ltZ (toZ w64 (ofZ w64 z)) (pos 0) ≡ (rises && lt (element (recordAt p i)) (element (recordAt p (i + 1))))
-  one-more rises z h g = rw (h, ← e, ← f) (told-below (element a) (element b) z g)
-
--- a record that is read has zeros after its key
-pub padded-at : (p a : List ℕ) (i : ℕ) → a ≡ recordAt p i → i < length p / 66 → elementReading (reading (recordAt p i)) ≡ true → Padded a
-padded-at p a i e h r = rw e (record-length p i h, r)
+  pub one-more : (rises : Bool) (z : ℤ) → rises ≡ true → i + 1 < length p / 66 → elementReading (reading (recordAt p i)) ≡ true → elementReading (reading (recordAt p (i + 1))) ≡ true
+      → z ≡ paddedOrder a b → ltZ (toZ w64 (ofZ w64 z)) (pos 0) ≡ (rises && lt (element (recordAt p i)) (element (recordAt p (i + 1))))
+  one-more rises z h n r s g =
+      let w = padded-below (recordAt p i) (recordAt p (i + 1)) (record-length p i (omega arith), r) (record-length p (i + 1) n, s) z in
+      rw h (w (rw (e, f) at g))
 
 -- where no other argument has cause 1 or 2, those of the pivots decide
 pub alone : (p : List ℕ) (shape wrong : Bool) (n : ℕ) (x : Answer) → shape ≡ false → wrong ≡ false → x ≡ answer (pivotCauses false false p) n

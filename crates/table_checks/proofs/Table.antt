@@ -5,13 +5,20 @@ use mathlib.Core.List.{List, [], _∷_}
 use Prim.Native.Nat.{ℕ}
 use borrow.Author.Tests.{not-true, not-false}
 use Rattle.model.specs.declared.Refusal.{Refusal}
-use Rattle.model.specs.declared.Refusal.the-variants.{EmptyPrefix}
+use Rattle.model.specs.declared.Refusal.the-variants.{Shape, EmptyPrefix}
 use Rattle.model.specs.declared.Answer.{Answer}
 use Rattle.model.specs.declared.Answer.the-variants.{Value, Refused}
 use Rattle.model.specs.records.Record.{records}
 use Rattle.model.specs.calls.Refusals.{_⇒_, outcome, answer}
-use Rattle.model.specs.calls.TableCalls.{notEdgeCount, edgesRead, edgesStand, pivotCauses, tableCauses}
+use Rattle.model.specs.calls.TableCalls.{notPivotCount, notEdgeCount, edgesRead, edgesStand, pivotCauses, tableCauses}
 use Rattle.model.proofs.calls.Refusals.{here, later, done, handed-on-first, call-passed-first, value-is}
+
+-- a count is wrong
+pub counts-refused : (p e : List ℕ) (shape wrong odd s t u : Bool) (n : ℕ) → odd ≡ (shape || s) → s ≡ notEdgeCount p e → u ≡ (odd || t) → t ≡ notPivotCount p
+    → u ≡ true → Refused Shape ≡ answer (tableCauses shape wrong p e) n
+unfolding tableCauses pivotCauses
+counts-refused p e shape wrong odd s t u n o so v tp h =
+    here Refused (Value n) (Refused Shape) (shape || notEdgeCount p e || notPivotCount p) Shape _ (rw (← so, ← tp, ← o, ← v) h) refl
 
 module _ (p e : List ℕ) (shape wrong odd bad s t : Bool) (n : ℕ) (x : Answer) (f : x ≡ answer (pivotCauses odd bad p) n)
     (o : odd ≡ (shape || s)) (so : s ≡ notEdgeCount p e) (b : bad ≡ (wrong || not t)) (tb : t ≡ edgesRead (records e)) where

@@ -1,5 +1,6 @@
 // The check of pivots with their edges.
 use crate::pivots::check_pivots;
+use crate::pivots::not_pivot_count;
 use model::Answer;
 use model::RECORD_SIZE;
 use model::Refusal;
@@ -87,10 +88,14 @@ fn edges_fit(pivots: &[u8], edges: &[u8]) -> bool
 }
 
 // Causes 1 to 4 of pivots and edges; else the count of pivots. The caller says whether another argument has cause 1, or cause 2.
+// No record is read before the counts are right, so that a refusal with 1 costs the same at any length.
 pub fn check_table(pivots: &[u8], edges: &[u8], shape: bool, wrong: bool) -> Answer
     ensures { λ r. ⌜ r ≡ answer (tableCauses shape wrong (now (pivots .entry)) (now (edges .entry))) (length (now (pivots .entry)) / recordSize) ⌝ }
 {
     let odd = either(shape, not_edge_count(pivots, edges));
+    if either(odd, not_pivot_count(pivots)) {
+        return Answer::Refused(Refusal::Shape);
+    }
     let bad = either(wrong, !edges_read(edges));
     let found = check_pivots(pivots, odd, bad);
     let Answer::Value(n) = found else {

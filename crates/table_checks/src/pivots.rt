@@ -15,7 +15,7 @@ ghost use Rattle.model.specs.calls.Refusals.{answer};
 ghost use Rattle.model.specs.calls.TableCalls.{notPivotCount, pivotCauses};
 
 // Whether a slice isn't whole records, or not as many as a table may have.
-fn not_pivot_count(pivots: &[u8]) -> bool
+pub(crate) fn not_pivot_count(pivots: &[u8]) -> bool
     ensures { λ r. ⌜ r ≡ notPivotCount (now (pivots .entry)) ⌝ }
 {
     let count = pivots.len() / RECORD_SIZE;

@@ -3,7 +3,7 @@ use crate::lent::Slices;
 use joistdenim::RECORD_SIZE;
 use std::rc::Rc;
 
-const NO_EDGE: u16 = 65_534;
+pub const NO_EDGE: u16 = 65_534;
 pub const MAX: u16 = 65_535;
 
 /// A record with this length field and these bytes.

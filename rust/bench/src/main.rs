@@ -14,6 +14,7 @@ mod rounds;
 mod sides;
 mod table_calls;
 mod timing;
+mod wrong_counts;
 
 use inputs::Xorshift;
 use std::process::ExitCode;
@@ -34,14 +35,15 @@ fn main() -> ExitCode {
     cases.extend(table_calls::insertions(&mut random));
     cases.extend(table_calls::joins(&mut random));
     cases.extend(index_calls::cases(&mut random));
-    for case in &mut cases {
+    let mut refused = wrong_counts::cases(&mut random);
+    for case in cases.iter_mut().chain(&mut refused) {
         case.calibrate();
     }
     for round in 0..rounds {
-        for case in &mut cases {
+        for case in cases.iter_mut().chain(&mut refused) {
             case.sample(round);
         }
     }
-    report::print(&cases, rounds);
+    report::print(&cases, &refused, rounds);
     ExitCode::SUCCESS
 }

@@ -1,7 +1,7 @@
 //! The printed tables, in Markdown, so that they can stand in a document as they are.
 use crate::case::Case;
 use crate::timing::{ratio, spread};
-use crate::{bucket_calls, index_calls, key_calls, pair_calls, table_calls};
+use crate::{bucket_calls, index_calls, key_calls, pair_calls, table_calls, wrong_counts};
 
 /// Up to here a ratio is printed as 1.00 or less.
 const EVEN: f64 = 1.005;
@@ -125,7 +125,25 @@ fn checks(cases: &[Case]) {
     }
 }
 
-pub fn print(cases: &[Case], rounds: usize) {
+/// How a refusal with 1 grows from few records to many that are not looked at.
+fn wrong_counts(refused: &[Case]) {
+    let [few, many] = wrong_counts::EDGES;
+    header(&[
+        "call",
+        "key bytes",
+        &format!("growth from {few} to {many} edges"),
+    ]);
+    for call in wrong_counts::CALLS {
+        let [few, many] = [few, many].map(|count| find(refused, call, wrong_counts::KEY, count));
+        row(
+            call,
+            wrong_counts::KEY,
+            [ratio(&many.library, &few.library)],
+        );
+    }
+}
+
+pub fn print(cases: &[Case], refused: &[Case], rounds: usize) {
     keys(cases);
     println!();
     tables(cases, &table_calls::CALLS, table_calls::PIVOTS);
@@ -140,6 +158,8 @@ pub fn print(cases: &[Case], rounds: usize) {
     println!();
     let entries = (index_calls::ENTRIES, "entries");
     growing(cases, &index_calls::CALLS, &bucket_calls::KEYS, entries);
+    println!();
+    wrong_counts(refused);
     println!();
     let slower = cases
         .iter()

@@ -1,10 +1,10 @@
 -- `indexes::rises_at` meets its contract.
-use Rattle.indexes.proofs.Entries.{padded-here, next-told}
+use Rattle.indexes.proofs.Entries.{next-told}
 use borrow.Author.Needs.{needs}
 use Rattle.indexes.proofs.entry.rises_at.Statement.{statement}
 use Rattle.indexes.proofs.entry.rises_at.Tie as tie
 
-ruleset rules = (needs, padded-here, next-told)
+ruleset rules = (needs, next-told)
 
 record-at-requires : tie.Need-record-at-requires
 record-at-requires c κs = search rules
@@ -16,7 +16,7 @@ record-at-requires-2 : tie.Need-record-at-requires-2
 record-at-requires-2 c κs = search rules
 
 compare-padded-requires : tie.Need-compare-padded-requires
-compare-padded-requires c κs = (padded-here _ (search needs) _ (search needs) _ (c .before .record-at .ensures), padded-here _ (search needs) _ (search needs) _ (c .record-at2 .ensures))
+compare-padded-requires c κs = search rules
 
 returns : tie.Need-returns
 returns c = search rules

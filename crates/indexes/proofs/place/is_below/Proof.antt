@@ -1,16 +1,16 @@
 -- `indexes::is_below` meets its contract.
-use Rattle.indexes.proofs.Entries.{padded-here, below-told}
+use Rattle.indexes.proofs.Entries.{below-told}
 use borrow.Author.Needs.{needs}
 use Rattle.indexes.proofs.place.is_below.Statement.{statement}
 use Rattle.indexes.proofs.place.is_below.Tie as tie
 
-ruleset rules = (needs, padded-here, below-told)
+ruleset rules = (needs, below-told)
 
 record-at-requires : tie.Need-record-at-requires
 record-at-requires c κs = search rules
 
 compare-padded-requires : tie.Need-compare-padded-requires
-compare-padded-requires c κs = (padded-here _ (search needs) _ (search needs) _ (c .record-at .ensures), search needs)
+compare-padded-requires c κs = search rules
 
 returns : tie.Need-returns
 returns c = search rules

@@ -1,12 +1,11 @@
 -- `keys::compare` meets its contract.
 use Rattle.model.proofs.calls.Refusals.{answering}
-use Rattle.keys.proofs.Elements.{passed-on}
-use Rattle.keys.proofs.Padded.{held}
+use Rattle.keys.proofs.Padded.{elements-told}
 use borrow.Author.Needs.{needs}
 use Rattle.keys.proofs.order.compare.Statement.{statement}
 use Rattle.keys.proofs.order.compare.Tie as tie
 
-ruleset rules = (needs, passed-on, answering)
+ruleset rules = (needs, elements-told, answering)
 
 returns : tie.Need-returns
 returns c = search rules
@@ -27,10 +26,7 @@ returns-4 : tie.Need-returns-4
 returns-4 c = search rules
 
 compare-padded-requires : tie.Need-compare-padded-requires
-compare-padded-requires c κs =
-    let first = held _ _ (c .before .before .before .holds-element .ensures) (c .before .before .if3 .left) in
-    let second = held _ _ (c .before .holds-element2 .ensures) (c .if4 .left) in
-    ((search needs, first), (search needs, second))
+compare-padded-requires c κs = search rules
 
 returns-5 : tie.Need-returns-5
 returns-5 c = search rules

@@ -24,23 +24,11 @@ compare-fields-requires-2 c κs = search rules
 returns-2 : tie.Need-returns-2
 returns-2 c = search rules
 
-sub-order-words : tie.Need-sub-order-words
-sub-order-words c = search rules
+after-field-requires : tie.Need-after-field-requires
+after-field-requires c κs = search rules
 
-part-order-words-start : tie.Need-part-order-words-start
-part-order-words-start c = search rules
-
-part-order-words-end : tie.Need-part-order-words-end
-part-order-words-end c = search rules
-
-sub-order-words-2 : tie.Need-sub-order-words-2
-sub-order-words-2 c = search rules
-
-part-order-words-start-2 : tie.Need-part-order-words-start-2
-part-order-words-start-2 c = search rules
-
-part-order-words-end-2 : tie.Need-part-order-words-end-2
-part-order-words-end-2 c = search rules
+after-field-requires-2 : tie.Need-after-field-requires-2
+after-field-requires-2 c κs = search rules
 
 order-words-requires : tie.Need-order-words-requires
 order-words-requires c κs = search rules
@@ -64,12 +52,8 @@ compare-padded-spec =
     returns
     compare-fields-requires-2
     returns-2
-    sub-order-words
-    part-order-words-start
-    part-order-words-end
-    sub-order-words-2
-    part-order-words-start-2
-    part-order-words-end-2
+    after-field-requires
+    after-field-requires-2
     order-words-requires
     returns-3
     compare-fields-requires-3

@@ -1,16 +1,19 @@
 -- `records::holds` meets its contract.
-use Rattle.records.proofs.Reading.{not-standing, standing}
+use Rattle.records.proofs.Reading.{key-short, not-standing, standing}
 use borrow.Author.Needs.{needs}
 use Rattle.records.proofs.read.holds.Statement.{statement}
 use Rattle.records.proofs.read.holds.Tie as tie
 
-ruleset rules = (needs, not-standing, standing)
+ruleset rules = (needs, key-short, not-standing, standing)
 
 length-field-requires : tie.Need-length-field-requires
 length-field-requires c κs = search rules
 
-stands-requires : tie.Need-stands-requires
-stands-requires c κs = search rules
+field-reading-requires : tie.Need-field-reading-requires
+field-reading-requires c κs = search rules
+
+allows-requires : tie.Need-allows-requires
+allows-requires c κs = search rules
 
 returns : tie.Need-returns
 returns c = search rules
@@ -29,7 +32,8 @@ holds-spec =
     tie.close
     (tie.spec
     length-field-requires
-    stands-requires
+    field-reading-requires
+    allows-requires
     returns
     tail-of-requires
     zero-from-requires

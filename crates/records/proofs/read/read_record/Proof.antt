@@ -1,22 +1,22 @@
 -- `records::read_record` meets its contract.
-use Rattle.records.proofs.Reading.{read-whole, read-spoilt}
+use Rattle.records.proofs.Reading.{key-short, read-whole, read-spoilt}
 use borrow.Author.Needs.{needs}
 use Rattle.records.proofs.read.read_record.Statement.{statement}
 use Rattle.records.proofs.read.read_record.Tie as tie
 
-ruleset rules = (needs, read-whole, read-spoilt)
+ruleset rules = (needs, key-short, read-whole, read-spoilt)
 
 length-field-requires : tie.Need-length-field-requires
 length-field-requires c κs = search rules
+
+field-reading-requires : tie.Need-field-reading-requires
+field-reading-requires c κs = search rules
 
 tail-of-requires : tie.Need-tail-of-requires
 tail-of-requires c κs = search rules
 
 zero-from-requires : tie.Need-zero-from-requires
 zero-from-requires c κs = search rules
-
-field-reading-requires : tie.Need-field-reading-requires
-field-reading-requires c κs = search rules
 
 returns : tie.Need-returns
 returns c = search rules
@@ -29,8 +29,8 @@ read-record-spec =
     tie.close
     (tie.spec
     length-field-requires
+    field-reading-requires
     tail-of-requires
     zero-from-requires
-    field-reading-requires
     returns
     returns-2)

@@ -1,16 +1,25 @@
 -- `records::tail_of` meets its contract.
-use Rattle.records.proofs.Reading.{key-tail, mark-tail}
+use Rattle.records.proofs.Reading.{tails}
 use borrow.Author.Needs.{needs}
 use Rattle.records.proofs.read.tail_of.Statement.{statement}
 use Rattle.records.proofs.read.tail_of.Tie as tie
 
-ruleset rules = (needs, key-tail, mark-tail)
+ruleset rules = (needs, tails)
 
-wide-requires : tie.Need-wide-requires
-wide-requires c κs = search rules
+enum-known-way : tie.Need-enum-known-way
+enum-known-way c = search rules
 
 add-result : tie.Need-add-result
 add-result c = search rules
+
+enum-told : tie.Need-enum-told
+enum-told c = search rules
+
+enum-told-2 : tie.Need-enum-told-2
+enum-told-2 c = search rules
+
+enum-told-3 : tie.Need-enum-told-3
+enum-told-3 c = search rules
 
 returns : tie.Need-returns
 returns c = search rules
@@ -18,5 +27,22 @@ returns c = search rules
 returns-2 : tie.Need-returns-2
 returns-2 c = search rules
 
+returns-3 : tie.Need-returns-3
+returns-3 c = search rules
+
+returns-4 : tie.Need-returns-4
+returns-4 c = search rules
+
 pub tail-of-spec : {M : Type 1} → statement M
-tail-of-spec = tie.close (tie.spec wide-requires add-result returns returns-2)
+tail-of-spec =
+    tie.close
+    (tie.spec
+    enum-known-way
+    add-result
+    enum-told
+    enum-told-2
+    enum-told-3
+    returns
+    returns-2
+    returns-3
+    returns-4)

@@ -1,5 +1,5 @@
 -- `table_checks::rises_on` meets its contract.
-use Rattle.table_checks.proofs.PivotPass.{one-more, padded-at}
+use Rattle.table_checks.proofs.PivotPass.{one-more}
 use borrow.Author.Needs.{needs}
 use Rattle.table_checks.proofs.pivots.rises_on.Statement.{statement}
 use Rattle.table_checks.proofs.pivots.rises_on.Tie as tie
@@ -16,10 +16,7 @@ record-at-requires-2 : tie.Need-record-at-requires-2
 record-at-requires-2 c κs = search rules
 
 compare-padded-requires : tie.Need-compare-padded-requires
-compare-padded-requires c κs = (
-  padded-at _ _ _ (c .before .before .record-at .ensures) (search needs) (search needs),
-  padded-at _ _ _ (c .before .record-at2 .ensures) (search needs) (search needs),
-)
+compare-padded-requires c κs = search rules
 
 returns : tie.Need-returns
 returns c = search rules
