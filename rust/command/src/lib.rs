@@ -9,6 +9,7 @@ mod check;
 mod failure;
 mod files;
 mod help;
+mod kind;
 mod list;
 mod man;
 mod output;
