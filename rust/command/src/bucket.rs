@@ -41,7 +41,7 @@ fn read(path: &OsStr, arguments: &Arguments, streams: &mut Streams) -> Result<Bu
     }
     let bytes = files::bytes(path, files::MOST_COUNTED, streams)?;
     Bucket::try_from(&bytes[..]).map_err(|refusal| {
-        let text = refused::entries(&files::name_of(path), &bytes, refusal);
+        let text = refused::entries(&files::name_of(path), &bytes);
         Failure::refused(refusal, text)
     })
 }

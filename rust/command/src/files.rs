@@ -51,7 +51,7 @@ impl Input {
     pub fn table(&self) -> Result<Table, Refused> {
         let refused = |refusal| Refused {
             refusal,
-            text: refused::table(&self.name, &self.bytes, refusal),
+            text: refused::table(&self.name, &self.bytes),
         };
         Table::try_from(&self.bytes[..]).map_err(refused)
     }

@@ -13,14 +13,15 @@ pub fn is_text(bytes: &[u8]) -> bool {
     bytes.len() > 2 && line.iter().all(printable)
 }
 
-/// Whether they are text in UTF-16: by a byte order mark with no zero character behind it, as a
-/// record with the mark "no edge" has them, or by a zero beside each of the first characters.
+/// Whether they are text in UTF-16: by a byte order mark, or by a zero beside each of the first
+/// characters, of which there are two at least. A record with the mark "no edge" begins as such a
+/// text may, and goes on with zeros.
 pub fn is_utf16(bytes: &[u8]) -> bool {
     let head = &bytes[..bytes.len().min(HEAD)];
     let pairs = || head.chunks_exact(2);
     match head {
         [0xFF, 0xFE, ..] | [0xFE, 0xFF, ..] => pairs().all(|pair| pair != [0, 0]),
-        [_, _, ..] => {
+        [_, _, _, _, ..] => {
             pairs().all(|pair| pair[0] == 0 && is_character(pair[1]))
                 || pairs().all(|pair| pair[1] == 0 && is_character(pair[0]))
         }

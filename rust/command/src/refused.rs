@@ -10,12 +10,11 @@ use joistdenim::{
 /// What a text is that was saved with two bytes a character, and how it is mended.
 pub const UTF_16: &str = "text in UTF-16: save it as UTF-8";
 
-/// A file that is no table.
-pub fn table(name: &str, input: &[u8], refusal: Refusal) -> String {
+/// A file that is no table: a record is at fault, or its shape.
+pub fn table(name: &str, input: &[u8]) -> String {
     match Table::why_refused(input) {
         Some(reason) => format!("{name}, {reason}"),
-        None if refusal == Refusal::Shape => shape(name, input),
-        None => format!("{name}: {}", refusal.meaning()),
+        None => shape(name, input),
     }
 }
 
@@ -51,12 +50,11 @@ fn at_most(length: usize, most: usize) -> String {
     }
 }
 
-/// Bytes that are no entries.
-pub fn entries(name: &str, bytes: &[u8], refusal: Refusal) -> String {
+/// Bytes that are no bucket: an entry is at fault, or their number.
+pub fn entries(name: &str, bytes: &[u8]) -> String {
     match Bucket::why_refused(bytes) {
         Some(reason) => format!("{name}, {reason}"),
-        None if refusal == Refusal::Shape => no_entries(name, bytes),
-        None => format!("{name}: {}", refusal.meaning()),
+        None => no_entries(name, bytes),
     }
 }
 

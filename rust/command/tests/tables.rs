@@ -202,7 +202,7 @@ fn a_text_may_say_what_is_no_table() {
 /// With and without a mark, in either byte order.
 #[test]
 fn text_in_utf_16_is_told() {
-    for text in [SHORT_T, LIST_OF_T, "\n", "# \u{e9}\n- -\nmax"] {
+    for text in [SHORT_T, LIST_OF_T, "\r\n", "# \u{e9}\n- -\nmax"] {
         for mark in ["\u{feff}", ""] {
             let units: Vec<u16> = format!("{mark}{text}").encode_utf16().collect();
             for to_bytes in [u16::to_le_bytes, u16::to_be_bytes] {
@@ -213,6 +213,11 @@ fn text_in_utf_16_is_told() {
                 bucket.failed(2, &format!("joistdenim: {line}"));
                 let way = "'joistdenim table' makes a table of it";
                 ran("list -", &bytes).failed(1, &format!("refused 1: {line}, and {way}"));
+                let bucket = ran("bucket translate --bytes 41 43 -", &bytes);
+                bucket.failed(
+                    1,
+                    &format!("refused 1: {line}, and without --bytes it is read"),
+                );
             }
         }
     }
@@ -220,6 +225,9 @@ fn text_in_utf_16_is_told() {
     let record = [&[0xFF, 0xFE][..], &[0; 64]].concat();
     let count = "standard input begins with a count of 65534, and a table has 2 to 64 pivots";
     ran("list -", record).failed(1, &format!("refused 1: {count}"));
+    // A count alone.
+    let size = "standard input has 2 bytes, and a table of 48 pivots has 6272";
+    ran("list -", [0, 48]).failed(1, &format!("refused 1: {size}"));
 }
 
 #[test]

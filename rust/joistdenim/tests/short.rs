@@ -124,6 +124,7 @@ fn faults_of_its_lines() {
         ("4130 43\nmax -\n42\n", (2, 1, max, 0)),
         ("4130\n4135 -\n42\n", (2, 1, after, 0)),
         ("4130 43 -\n42\n", (1, 9, third, 0)),
+        ("4130 41>43 -\n42\n", (1, 12, third, 0)),
         ("4130 é -\n42\n", (1, 8, third, 0)),
         ("4130 é\n42\n", (1, 6, "'é' is no hexadecimal digit", 0)),
         ("é 43\n42\n", (1, 1, "'é' is no hexadecimal digit", 0)),

@@ -34,7 +34,8 @@ pub fn of_short(field: &Field) -> Result<(Edge, Option<Key>), ListError> {
 
 /// Why a line of the short form has too many fields.
 pub fn too_many(row: &[Field]) -> Fault {
-    match row[1..].iter().any(|field| field.text.contains(BECOMES)) {
+    let is_side = |text: &str| text.starts_with(BECOMES) || text.ends_with(BECOMES);
+    match row.iter().any(|field| is_side(field.text)) {
         true => Fault::Parted,
         false => Fault::ThirdField,
     }
