@@ -10,21 +10,29 @@ use joistdenim::{
 /// What a text is that was saved with two bytes a character, and how it is mended.
 pub const UTF_16: &str = "text in UTF-16: save it as UTF-8";
 
-/// A file that is no table: a record is at fault, or its shape.
+/// A file that is no table.
 pub fn table(name: &str, input: &[u8]) -> String {
-    match Table::why_refused(input) {
-        Some(reason) => format!("{name}, {reason}"),
-        None => shape(name, input),
+    let reason = Table::why_refused(input).map(|reason| format!("{name}, {reason}"));
+    let text = || text(name, input, "'joistdenim table' makes a table of a list");
+    reason.or_else(text).unwrap_or_else(|| shape(name, input))
+}
+
+/// Bytes that are no bucket.
+pub fn entries(name: &str, bytes: &[u8]) -> String {
+    let reason = Bucket::why_refused(bytes).map(|reason| format!("{name}, {reason}"));
+    let text = || text(name, bytes, "without --bytes it is read");
+    reason.or_else(text).unwrap_or_else(|| number(name, bytes))
+}
+
+/// Text where bytes are wanted. The hint says what reads it.
+fn text(name: &str, bytes: &[u8], hint: &str) -> Option<String> {
+    match is_utf16(bytes) {
+        true => Some(format!("{name} is {UTF_16}, and {hint}")),
+        false => is_text(bytes).then(|| format!("{name} is text; {hint}")),
     }
 }
 
 fn shape(name: &str, input: &[u8]) -> String {
-    if is_utf16(input) {
-        return format!("{name} is {UTF_16}, and 'joistdenim table' makes a table of it");
-    }
-    if is_text(input) {
-        return format!("{name} is text; 'joistdenim table' makes a table of a list");
-    }
     let length = at_most(input.len(), MOST_TABLE);
     let count = input.split_first_chunk();
     match count.map(|(count, _)| u16::from_be_bytes(*count).into()) {
@@ -50,21 +58,8 @@ fn at_most(length: usize, most: usize) -> String {
     }
 }
 
-/// Bytes that are no bucket: an entry is at fault, or their number.
-pub fn entries(name: &str, bytes: &[u8]) -> String {
-    match Bucket::why_refused(bytes) {
-        Some(reason) => format!("{name}, {reason}"),
-        None => no_entries(name, bytes),
-    }
-}
-
-fn no_entries(name: &str, bytes: &[u8]) -> String {
-    if is_utf16(bytes) {
-        return format!("{name} is {UTF_16}, and without --bytes it is read");
-    }
-    if is_text(bytes) {
-        return format!("{name} is text; without --bytes it is read");
-    }
+/// A number of bytes or entries that no bucket has.
+fn number(name: &str, bytes: &[u8]) -> String {
     let (length, entries) = (bytes.len(), bytes.len() / ENTRY_SIZE);
     let most = format!("a bucket has at most {MAX_ENTRIES}");
     if length > MOST_COUNTED {

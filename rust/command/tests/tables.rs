@@ -211,7 +211,7 @@ fn text_in_utf_16_is_told() {
                 ran("table", &bytes).failed(2, &format!("joistdenim: {line}"));
                 let bucket = ran("bucket translate 41 43 -", &bytes);
                 bucket.failed(2, &format!("joistdenim: {line}"));
-                let way = "'joistdenim table' makes a table of it";
+                let way = "'joistdenim table' makes a table of a list";
                 ran("list -", &bytes).failed(1, &format!("refused 1: {line}, and {way}"));
                 let bucket = ran("bucket translate --bytes 41 43 -", &bytes);
                 bucket.failed(
