@@ -39,9 +39,9 @@ fn read(path: &OsStr, arguments: &Arguments, streams: &mut Streams) -> Result<Bu
     if !arguments.has("--bytes") {
         return files::of_text(path, "with --bytes entries are read", streams);
     }
-    let bytes = files::bytes(path, files::MOST_BUCKET, streams)?;
+    let bytes = files::bytes(path, files::MOST_COUNTED, streams)?;
     Bucket::try_from(&bytes[..]).map_err(|refusal| {
-        let text = refused::entries(&files::name_of(path), &bytes, refusal);
+        let text = refused::entries(&files::name_of(path), &bytes);
         Failure::refused(refusal, text)
     })
 }

@@ -1,6 +1,7 @@
 //! Files that are read, standard input among them.
 use crate::arguments::STREAM;
 use crate::failure::{Failure, Refused};
+use crate::kind::is_utf16;
 use crate::refused;
 use crate::Streams;
 use joistdenim::{ListError, Table, ENTRY_SIZE, MAX_ENTRIES, MAX_PIVOTS, RECORD_SIZE};
@@ -14,9 +15,11 @@ pub const fn table_size(pivots: usize) -> usize {
     2 + (2 * pivots - 1) * RECORD_SIZE
 }
 
-/// The bytes of the largest table and bucket; what is longer is refused whatever follows.
+/// The bytes of the largest table; what is longer is refused whatever follows.
 pub const MOST_TABLE: usize = table_size(MAX_PIVOTS);
-pub const MOST_BUCKET: usize = MAX_ENTRIES * ENTRY_SIZE;
+/// A bucket's bytes are read up to here, far more than it can have, to say how many entries there
+/// are too many.
+pub const MOST_COUNTED: usize = 100 * MAX_ENTRIES * ENTRY_SIZE;
 /// The longest text, comments included.
 const MOST_TEXT: usize = 1 << 20;
 
@@ -48,7 +51,7 @@ impl Input {
     pub fn table(&self) -> Result<Table, Refused> {
         let refused = |refusal| Refused {
             refusal,
-            text: refused::table(&self.name, &self.bytes, refusal),
+            text: refused::table(&self.name, &self.bytes),
         };
         Table::try_from(&self.bytes[..]).map_err(refused)
     }
@@ -80,6 +83,9 @@ pub fn of_text<T: FromStr<Err = ListError>>(
 ) -> Result<T, Failure> {
     let text = bytes(path, MOST_TEXT, streams)?;
     let name = name_of(path);
+    if is_utf16(&text) {
+        return Err(Failure::File(format!("{name} is {}", refused::UTF_16)));
+    }
     if text.contains(&0) {
         return Err(Failure::File(format!("{name} is no text; {hint}")));
     }

@@ -10,6 +10,7 @@ mod failure;
 mod files;
 mod help;
 mod keys;
+mod kind;
 mod list;
 mod man;
 mod output;

@@ -47,12 +47,17 @@ const TEXT: (&str, &str) = (
 pub const PAGES: &[Page] = &[
     Page {
         name: "list",
-        usage: "TABLE [-o FILE]",
+        usage: "[--short] [--text] TABLE [-o FILE]",
         about: "prints the list of a table",
         text: &[
             "Prints the list of a table, a line for each slot: its number, its bounds, the prefix that all its keys share, and its edge, the prefix that replaces it. It is what list_table writes, byte for byte.",
+            "With --short it prints the short form, which is the one to edit: 'joistdenim table' reads it, and tells where a moved bound changes what an edge replaces.",
         ],
-        options: &[FILE],
+        options: &[
+            ("--short", "left bounds, edges with what they replace, and the end"),
+            ("--text", "adds the keys as characters, behind a #"),
+            FILE,
+        ],
         example: include_str!("pages/list.txt"),
         run: list::run,
     },
@@ -63,7 +68,7 @@ pub const PAGES: &[Page] = &[
         text: &[
             "Makes a table of its list: the way back from 'joistdenim list'. Without LIST, or with -, it reads standard input.",
             "The fields left, right and edge decide. Where slot, shared or a right bound doesn't agree with them, or something can't be read, the line and the column are told.",
-            "In the short form a line has left and edge alone, and the last line the end, a key or max.",
+            "In the short form a line has left and edge alone, and the last line the end, a key or max. An edge may be OLD>NEW, with what it replaces: where the keys of the slot share something else than OLD, that is told.",
         ],
         options: &[FILE],
         example: include_str!("pages/table.txt"),

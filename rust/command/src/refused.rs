@@ -1,36 +1,38 @@
 //! What a refusal means for what was asked.
 use crate::failure::Refused;
-use crate::files::{table_size, MOST_BUCKET, MOST_TABLE};
+use crate::files::{table_size, MOST_COUNTED, MOST_TABLE};
+use crate::kind::{is_text, is_utf16};
 use joistdenim::{
-    entry_key, Element, Key, RecordPlace, Refusal, Slot, Table, ENTRY_SIZE, MAX_ENTRIES, MAX_LEN,
-    MAX_PIVOTS, MIN_PIVOTS,
+    Bucket, Element, Key, Refusal, Slot, Table, ENTRY_SIZE, MAX_ENTRIES, MAX_LEN, MAX_PIVOTS,
+    MIN_PIVOTS,
 };
 
-/// What a malformed record is, in a table or in an entry.
-const MALFORMED: &str = "a malformed record, or a wrong mark";
+/// What a text is that was saved with two bytes a character, and how it is mended.
+pub const UTF_16: &str = "text in UTF-16: save it as UTF-8";
 
 /// A file that is no table.
-pub fn table(name: &str, input: &[u8], refusal: Refusal) -> String {
-    if refusal == Refusal::Shape {
-        return shape(name, input);
+pub fn table(name: &str, input: &[u8]) -> String {
+    let reason = Table::why_refused(input).map(|reason| format!("{name}, {reason}"));
+    let text = || text(name, input, "'joistdenim table' makes a table of a list");
+    reason.or_else(text).unwrap_or_else(|| shape(name, input))
+}
+
+/// Bytes that are no bucket.
+pub fn entries(name: &str, bytes: &[u8]) -> String {
+    let reason = Bucket::why_refused(bytes).map(|reason| format!("{name}, {reason}"));
+    let text = || text(name, bytes, "without --bytes it is read");
+    reason.or_else(text).unwrap_or_else(|| number(name, bytes))
+}
+
+/// Text where bytes are wanted. The hint says what reads it.
+fn text(name: &str, bytes: &[u8], hint: &str) -> Option<String> {
+    match is_utf16(bytes) {
+        true => Some(format!("{name} is {UTF_16}, and {hint}")),
+        false => is_text(bytes).then(|| format!("{name} is text; {hint}")),
     }
-    let (pivots, edges) = Table::split_input(input).unwrap_or_default();
-    let place = match Table::refused_record(pivots, edges) {
-        Some(RecordPlace::Pivot(place)) => format!(", pivot {place}"),
-        Some(RecordPlace::Edge(slot)) => format!(", edge {slot}"),
-        None => String::new(),
-    };
-    let meaning = match refusal {
-        Refusal::Malformed => MALFORMED,
-        refusal => refusal.meaning(),
-    };
-    format!("{name}{place}: {meaning}")
 }
 
 fn shape(name: &str, input: &[u8]) -> String {
-    if looks_like_text(input) {
-        return format!("{name} is text; 'joistdenim table' makes a table of a list");
-    }
     let length = at_most(input.len(), MOST_TABLE);
     let count = input.split_first_chunk();
     match count.map(|(count, _)| u16::from_be_bytes(*count).into()) {
@@ -56,29 +58,21 @@ fn at_most(length: usize, most: usize) -> String {
     }
 }
 
-/// Whether it begins with a line of printable characters, as no table and no bucket does.
-fn looks_like_text(input: &[u8]) -> bool {
-    let line = input
-        .split(|byte| *byte == b'\n')
-        .next()
-        .unwrap_or_default();
-    let printable = |byte: &u8| (b' '..=b'~').contains(byte) || *byte == b'\t';
-    input.len() > 2 && line.iter().all(printable)
-}
-
-/// Bytes that are no entries.
-pub fn entries(name: &str, bytes: &[u8], refusal: Refusal) -> String {
-    if refusal != Refusal::Shape {
-        let mut entries = bytes.chunks(ENTRY_SIZE);
-        let place = entries.position(|entry| entry_key(entry).is_err());
-        let place = place.map_or(String::new(), |place| format!(", entry {place}"));
-        return format!("{name}{place}: {MALFORMED}");
+/// A number of bytes or entries that no bucket has.
+fn number(name: &str, bytes: &[u8]) -> String {
+    let (length, entries) = (bytes.len(), bytes.len() / ENTRY_SIZE);
+    let most = format!("a bucket has at most {MAX_ENTRIES}");
+    if length > MOST_COUNTED {
+        return format!("{name} has over {entries} entries, and {most}");
     }
-    if looks_like_text(bytes) {
-        return format!("{name} is text; without --bytes it is read");
+    if length % ENTRY_SIZE == 0 {
+        return format!("{name} has {entries} entries, and {most}");
     }
-    let length = at_most(bytes.len(), MOST_BUCKET);
-    format!("{name} has {length} bytes, and a bucket at most {MAX_ENTRIES} entries of {ENTRY_SIZE}")
+    let kind = match Table::try_from(bytes) {
+        Ok(_) => "; it is a table",
+        Err(_) => "",
+    };
+    format!("{name} has {length} bytes, which is no multiple of {ENTRY_SIZE}, the bytes of an entry{kind}")
 }
 
 /// The first and the last pivot, as text.
@@ -97,6 +91,11 @@ pub fn key_of(bytes: &[u8]) -> Result<Key, Refused> {
 
 pub fn digits(bytes: &[u8]) -> String {
     bytes.iter().map(|byte| format!("{byte:02x}")).collect()
+}
+
+/// The characters of a key in quotation marks, those that can't be printed as escapes.
+pub fn quoted(bytes: &[u8]) -> String {
+    format!("\"{}\"", bytes.escape_ascii())
 }
 
 pub fn long_key(shown: &str, length: usize) -> String {

@@ -1,9 +1,12 @@
 //! `bucket translate`: text and bytes, what is kept and skipped, and what would be too long.
 mod support;
 
-use support::{ran, Folder};
+use support::{ran, table, Folder, SHORT_T};
 
 const BUCKET: &str = "413001\t7\n42\t8\n413402\t9\n";
+
+/// Why 70 bytes FF are no entry.
+const MAX: &str = "it has the mark max, which only a table's last pivot can have";
 
 /// The entries' bytes: keys of a few bytes and their numbers.
 fn entries(of: &[(&[u8], u32)]) -> Vec<u8> {
@@ -85,7 +88,9 @@ fn what_is_no_bucket() {
         ran("bucket translate 41 43 -", text).failed(2, &line);
     }
     let many = "41 7\n".repeat(513);
-    let line = format!("refused 1: {place} 513, column 1: a bucket has at most 512 entries");
+    let line = format!(
+        "refused 1: {place} 513, column 1: a bucket has at most 512 entries, and this has 513"
+    );
     ran("bucket translate 41 43 -", &many).failed(1, &line);
     let most = ran("bucket translate 41 43 -", &many["41 7\n".len()..]);
     assert_eq!(most.errors, "kept 512, skipped 0\n");
@@ -95,18 +100,34 @@ fn what_is_no_bucket() {
 fn what_are_no_entries() {
     let two = entries(&[(b"A0", 7), (b"B", 8)]);
     let translate = |bytes: &[u8]| ran("bucket translate --bytes 41 43 -", bytes);
-    let shape = |length| {
-        format!(
-            "refused 1: standard input has {length} bytes, and a bucket at most 512 entries of 70"
-        )
+    let refused = |bytes: &[u8], said: &str| {
+        translate(bytes).failed(1, &format!("refused 1: standard input has {said}"));
     };
-    translate(&two[..139]).failed(1, &shape("139"));
-    translate(&two.repeat(257)).failed(1, &shape("over 35840"));
+    let no_multiple = "bytes, which is no multiple of 70, the bytes of an entry";
+    refused(&two[..139], &format!("139 {no_multiple}"));
+    refused(&[0; 36_000], &format!("36000 {no_multiple}"));
+    refused(
+        &table(SHORT_T),
+        &format!("332 {no_multiple}; it is a table"),
+    );
+    let many = |count| format!("{count} entries, and a bucket has at most 512");
+    refused(&two[..70].repeat(513), &many("513"));
+    refused(&two.repeat(25_600), &many("51200"));
+    refused(&two.repeat(25_601), &many("over 51200"));
     let text = "refused 1: standard input is text; without --bytes it is read";
     translate(BUCKET.as_bytes()).failed(1, text);
     let wrong = [&two[..], &[0xFF; 70]].concat();
-    let line = "refused 2: standard input, entry 2: a malformed record, or a wrong mark";
-    translate(&wrong).failed(1, line);
+    translate(&wrong).failed(
+        1,
+        &format!("refused 2: standard input, entry 2 at byte 140: {MAX}"),
+    );
+    let mut wrong = two.repeat(2);
+    wrong[140 + 65] = 0x0A;
+    let zero = "byte 205 is 0a, and all bytes behind a key of length 2 are 00";
+    translate(&wrong).failed(
+        1,
+        &format!("refused 2: standard input, entry 2 at byte 140: {zero}"),
+    );
     let hint = "joistdenim: standard input is no text; with --bytes entries are read";
     ran("bucket translate 41 43 -", two).failed(2, hint);
 }
@@ -115,8 +136,8 @@ fn what_are_no_entries() {
 fn of_two_refusals_the_buckets_comes_first() {
     let long = "41".repeat(65);
     let many = "41 7\n".repeat(513);
-    let line = "refused 1: standard input, line 513, column 1: a bucket has at most 512 entries";
+    let line = "refused 1: standard input, line 513, column 1: a bucket has at most 512 entries, and this has 513";
     ran(&format!("bucket translate {long} 43 -"), many).failed(1, line);
-    let wrong = "refused 2: standard input, entry 0: a malformed record, or a wrong mark";
-    ran(&format!("bucket translate --bytes 43 {long} -"), [0xFF; 70]).failed(1, wrong);
+    let wrong = format!("refused 2: standard input, entry 0 at byte 0: {MAX}");
+    ran(&format!("bucket translate --bytes 43 {long} -"), [0xFF; 70]).failed(1, &wrong);
 }

@@ -119,8 +119,8 @@ fn the_first_refusal_over_all_arguments() {
         let whole = |text: &str| text.replace("DIR/", &folder.at("")).replace("LONG", &long);
         ran(&whole(arguments), "").failed(1, &whole(&format!("refused {line}")));
     };
-    let rises = "3: DIR/unsorted, pivot 1: pivots don't rise strictly";
-    let mark = "2: DIR/marked, pivot 0: a malformed record, or a wrong mark";
+    let rises = "3: DIR/unsorted, pivot 1 at byte 68: pivots don't rise strictly: 42 isn't above 43, which comes before it";
+    let mark = "2: DIR/marked, pivot 0 at byte 2: it has the mark max, which only a table's last pivot can have";
     let key = "2: LONG has 65 bytes, and a key has at most 64";
     let short = "1: DIR/short has 331 bytes, and a table of 3 pivots has 332";
     refused("join DIR/unsorted DIR/marked", mark);

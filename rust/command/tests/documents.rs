@@ -113,8 +113,28 @@ fn examples_of_help_run() {
 fn lines_of_the_document_run() {
     let blocks = blocks(&document("docs/COMMAND.md"));
     let shown: Vec<&String> = blocks.iter().filter(has_commands).collect();
-    assert_eq!(shown.len(), 4);
+    assert_eq!(shown.len(), 5);
     shown.into_iter().for_each(|block| run(block));
+}
+
+/// Each table that docs/FORMAT.md makes, byte by byte and by the command, is one of the examples.
+#[test]
+fn lines_of_the_formats_make_the_examples() {
+    let format = document("docs/FORMAT.md");
+    let folder = Folder::new();
+    let mut made = vec![];
+    let zeros = "z() { head -c \"$1\" /dev/zero; }";
+    assert!(format.contains(&format!("\n{zeros}\n")));
+    for block in blocks(&format) {
+        if block.ends_with(">table\n") || block.ends_with("-o table\n") {
+            let ran = shell(&format!("{zeros}\n{block}"), folder.path());
+            assert!(ran.status.success(), "{block}");
+            made.push(fs::read(folder.at("table")).expect("a table"));
+        }
+    }
+    let example = |name| fs::read(root().join("examples").join(name)).expect(name);
+    let (t, stripped) = (example("t.table"), example("stripped.table"));
+    assert_eq!(made, [t.clone(), t, stripped.clone(), stripped]);
 }
 
 #[test]

@@ -85,7 +85,7 @@ fn what_is_refused_changes_no_file() {
     failed(
         &unread,
         1,
-        "refused 1: standard input, line 2, column 1: a table has 2 to 64 pivots",
+        "refused 1: standard input, line 2, column 1: a table has 2 to 64 pivots, and this has 1",
     );
     let wrong = shell("joistdenim insert t.table 4x -o t.table", folder.path());
     assert_eq!(wrong.status.code(), Some(2));

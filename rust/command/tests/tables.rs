@@ -46,7 +46,7 @@ fn tables_are_read_from_files_too() {
 }
 
 /// What is said of standard input where T has these bytes at this place.
-const FAULTS: [(usize, &[u8], &str); 8] = [
+const FAULTS: [(usize, &[u8], &str); 10] = [
     (
         0,
         &[0, 65],
@@ -60,24 +60,42 @@ const FAULTS: [(usize, &[u8], &str); 8] = [
     (
         68,
         &[0, 65],
-        "2: T, pivot 1: a malformed record, or a wrong mark",
+        "2: T, pivot 1 at byte 68: its length field is 65, and a key has at most 64 bytes",
     ),
     (
         199,
         &[1],
-        "2: T, pivot 2: a malformed record, or a wrong mark",
+        "2: T, pivot 2 at byte 134: byte 199 is 01, and all bytes behind a key of length 1 are 00",
+    ),
+    (
+        268,
+        &[0xA0],
+        "2: T, edge 1 at byte 266: byte 268 is a0, and all bytes behind the mark \"no edge\" are 00",
     ),
     (
         266,
         &[0xFF; 2],
-        "2: T, edge 1: a malformed record, or a wrong mark",
+        "2: T, edge 1 at byte 266: it has the mark max, which only a table's last pivot can have",
     ),
-    (71, b"0", "3: T, pivot 1: pivots don't rise strictly"),
-    (136, b"A", "3: T, pivot 2: pivots don't rise strictly"),
+    (
+        2,
+        &[0xFF, 0xFE],
+        "2: T, pivot 0 at byte 2: it has the mark \"no edge\", which only an edge can have",
+    ),
+    (
+        71,
+        b"0",
+        "3: T, pivot 1 at byte 68: pivots don't rise strictly: 4130 isn't above 4130, which comes before it",
+    ),
+    (
+        136,
+        b"A",
+        "3: T, pivot 2 at byte 134: pivots don't rise strictly: 41 isn't above 4135, which comes before it",
+    ),
     (
         4,
         b"@",
-        "4: T, edge 0: an edge where the range's prefix is empty",
+        "4: T, edge 0 at byte 200: an edge where shared is empty: keys from 4030 up to 4135 share nothing",
     ),
 ];
 
@@ -148,8 +166,11 @@ fn a_text_at_fault_is_told_with_line_and_column() {
     for (old, new, said) in SLIPS {
         unread(&LIST_OF_T.replacen(old, new, 1), said);
     }
-    let end = "line 2, column 1: the last line is missing, with the end of the table: a key or max";
+    let end =
+        "line 2, column 1: the last line is missing, with the end of the table: a key or max alone";
     unread("4130 43\n", end);
+    let end = "line 3, column 4: the last line is the end of the table: a key or max alone, without an edge";
+    unread("4130 43\n4135 -\n42 -\n", end);
     let refused = "line 1, column 1: this says that a table was refused, and is no list";
     unread("refused\t3\n", refused);
     unread("\u{e9}\n", "line 1, column 1: 'é' is no hexadecimal digit");
@@ -160,15 +181,15 @@ fn a_text_may_say_what_is_no_table() {
     for (text, said) in [
         (
             "42\n",
-            "1: standard input, line 2, column 1: a table has 2 to 64 pivots",
+            "1: standard input, line 2, column 1: a table has 2 to 64 pivots, and this has 1",
         ),
         (
-            "41 -\n41 -\nmax\n",
-            "3: standard input, line 2, column 1: pivots don't rise strictly",
+            "41 -\n40 -\nmax\n",
+            "3: standard input, line 2, column 1: pivots don't rise strictly: 40 isn't above 41, which comes before it",
         ),
         (
             "41 43\nmax\n",
-            "4: standard input, line 1, column 4: an edge where the range's prefix is empty",
+            "4: standard input, line 1, column 4: an edge where shared is empty: keys from 41 up to max share nothing; no edge is written -",
         ),
     ] {
         ran("table", text).failed(1, &format!("refused {said}"));
@@ -176,6 +197,37 @@ fn a_text_may_say_what_is_no_table() {
     let long = format!("41 {}\n42\n", "43".repeat(65));
     let said = "line 1, column 4: a key has at most 64 bytes, and this one has 65";
     ran("table", long).failed(1, &format!("refused 2: standard input, {said}"));
+}
+
+/// With and without a mark, in either byte order.
+#[test]
+fn text_in_utf_16_is_told() {
+    for text in [SHORT_T, LIST_OF_T, "\r\n", "# \u{e9}\n- -\nmax"] {
+        for mark in ["\u{feff}", ""] {
+            let units: Vec<u16> = format!("{mark}{text}").encode_utf16().collect();
+            for to_bytes in [u16::to_le_bytes, u16::to_be_bytes] {
+                let bytes: Vec<u8> = units.iter().flat_map(|unit| to_bytes(*unit)).collect();
+                let line = "standard input is text in UTF-16: save it as UTF-8";
+                ran("table", &bytes).failed(2, &format!("joistdenim: {line}"));
+                let bucket = ran("bucket translate 41 43 -", &bytes);
+                bucket.failed(2, &format!("joistdenim: {line}"));
+                let way = "'joistdenim table' makes a table of a list";
+                ran("list -", &bytes).failed(1, &format!("refused 1: {line}, and {way}"));
+                let bucket = ran("bucket translate --bytes 41 43 -", &bytes);
+                bucket.failed(
+                    1,
+                    &format!("refused 1: {line}, and without --bytes it is read"),
+                );
+            }
+        }
+    }
+    // An edge's record, which begins as a text with a mark may.
+    let record = [&[0xFF, 0xFE][..], &[0; 64]].concat();
+    let count = "standard input begins with a count of 65534, and a table has 2 to 64 pivots";
+    ran("list -", record).failed(1, &format!("refused 1: {count}"));
+    // A count alone.
+    let size = "standard input has 2 bytes, and a table of 48 pivots has 6272";
+    ran("list -", [0, 48]).failed(1, &format!("refused 1: {size}"));
 }
 
 #[test]
@@ -190,6 +242,9 @@ fn bytes_are_no_text_and_comments_are_any() {
     assert_eq!(ran("table", &long[..1 << 20]).done(), table(SHORT_T));
 }
 
+const NOT_ABOVE: &str =
+    "pivot 1 at byte 68: pivots don't rise strictly: 4130 isn't above 4130, which comes before it";
+
 #[test]
 fn tables_are_checked_each() {
     let folder = Folder::new();
@@ -199,7 +254,7 @@ fn tables_are_checked_each() {
     let none = folder.at("none");
     let well = format!("{good}: well formed, 3 pivots, 2 slots, 1 with an edge\n");
     let of_all = format!("{all}: well formed, 5 pivots, 4 slots, 1 with an edge, all keys\n");
-    let refused = format!("refused 3: {bad}, pivot 1: pivots don't rise strictly\n");
+    let refused = format!("refused 3: {bad}, {NOT_ABOVE}\n");
     let missing = format!("joistdenim: {none}: No such file or directory (os error 2)\n");
     let checked = ran(&format!("check {good} {all}"), "");
     assert_eq!(checked.text(), format!("{well}{of_all}"));

@@ -95,7 +95,9 @@ impl FromStr for Bucket {
         let entries: Result<Vec<Entry>, ListError> = rows.iter().map(|row| entry(row)).collect();
         Bucket::new(&entries?).map_err(|refusal| {
             // Only the number of the entries can be at fault, and so the first too many is there.
-            let meaning = "a bucket has at most 512 entries";
+            let count = rows.len();
+            let meaning =
+                format!("a bucket has at most {MAX_ENTRIES} entries, and this has {count}");
             rows[MAX_ENTRIES][0].fault(Fault::Refused(refusal, meaning))
         })
     }

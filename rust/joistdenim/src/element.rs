@@ -3,7 +3,7 @@ use crate::key::Key;
 use crate::keys::{compare, pivot_key};
 use crate::record::MAX_RECORD;
 use crate::refusal::Refusal;
-use crate::text::{TextError, MAX};
+use crate::text::{is_max, TextError, MAX};
 use crate::RECORD_SIZE;
 use std::cmp::Ordering;
 use std::fmt;
@@ -56,13 +56,14 @@ impl TryFrom<&[u8]> for Element {
     }
 }
 
+/// Reads a key, or `max` in letters of either case.
 impl FromStr for Element {
     type Err = TextError;
 
     fn from_str(text: &str) -> Result<Self, TextError> {
-        match text {
-            MAX => Ok(Element::Max),
-            key => key.parse().map(Element::Key),
+        match is_max(text) {
+            true => Ok(Element::Max),
+            false => text.parse().map(Element::Key),
         }
     }
 }

@@ -1,9 +1,12 @@
 //! A table read back from its list, or from the short form that people write.
+mod edges;
 mod forms;
+mod short;
 
 use crate::lines::{rows, ListError};
 use crate::table::Table;
 use forms::read;
+pub use short::ShortForm;
 use std::str::FromStr;
 
 /// Reads the list of a table, as `Display` writes it. The fields `left`, `right` and `edge`
@@ -11,7 +14,8 @@ use std::str::FromStr;
 ///
 /// Spaces may stand for tabs. Blank lines are passed over, and so is what follows a `#`. The line
 /// with the names of the fields may be missing. And there is a short form: a line for each slot,
-/// with `left` and `edge` alone, and a last line with the end, a key or `max`.
+/// with `left` and `edge` alone, and a last line with the end, a key or `max`. There an edge may be
+/// `OLD>NEW`, with what it replaces, which then must be what the keys of the slot share.
 ///
 /// ```
 /// use joistdenim::{ListError, Refusal, Table};

@@ -7,8 +7,8 @@ pub type Record = [u8; RECORD_SIZE];
 pub const KEY_AT: usize = 2;
 
 /// The length fields that are no length.
-const NO_EDGE: u16 = 0xFFFE;
-const MAX: u16 = 0xFFFF;
+pub const NO_EDGE: u16 = 0xFFFE;
+pub const MAX: u16 = 0xFFFF;
 
 pub const NO_EDGE_RECORD: Record = marked(NO_EDGE);
 pub const MAX_RECORD: Record = marked(MAX);

@@ -200,7 +200,7 @@ impl Table {
     }
 }
 
-fn record_at(records: &[u8], place: usize) -> &[u8] {
+pub(crate) fn record_at(records: &[u8], place: usize) -> &[u8] {
     &records[place * RECORD_SIZE..][..RECORD_SIZE]
 }
 

@@ -84,6 +84,11 @@ pub fn from_hex(digits: &str) -> Result<Vec<u8>, TextError> {
     }
 }
 
+/// Whether it stands for max, in letters of either case.
+pub fn is_max(text: &str) -> bool {
+    text.eq_ignore_ascii_case(MAX)
+}
+
 /// The digits of a key, or what stands for the empty one.
 pub fn write_key(f: &mut fmt::Formatter<'_>, key: &Key, empty: &str) -> fmt::Result {
     match key.as_bytes() {

@@ -1,39 +1,9 @@
-//! Tables and buckets read from text: the list and the short form, what a person may write
-//! otherwise, and each fault with its line and column.
-use joistdenim::{Bucket, ListError, Refusal, Table};
+//! Tables and buckets read from text: the list, what a person may write otherwise, and each fault
+//! with its line and column.
+mod support;
 
-const LIST_OF_T: &str =
-    "slot\tleft\tright\tshared\tedge\n0\t4130\t4135\t41\t43\n1\t4135\t42\t41\t-\n";
-
-fn t() -> Table {
-    LIST_OF_T.parse().expect("T's own list")
-}
-
-/// The texts, each of them T's.
-fn all_are_t(texts: &[&str]) {
-    for text in texts {
-        assert_eq!(text.parse().as_ref(), Ok(&t()), "{text:?}");
-    }
-}
-
-/// Line and column, what is said there, and the refusal's number or 0.
-type Said = (usize, usize, &'static str, u32);
-
-fn said(error: &ListError) -> (usize, usize, String, u32) {
-    let number = error.refusal().map_or(0, Refusal::number);
-    (error.line(), error.column(), error.reason(), number)
-}
-
-fn faults_of_tables(cases: &[(&str, Said)]) {
-    for (text, (line, column, reason, number)) in cases {
-        let error = text.parse::<Table>().expect_err(text);
-        assert_eq!(
-            said(&error),
-            (*line, *column, reason.to_string(), *number),
-            "{text:?}"
-        );
-    }
-}
+use joistdenim::{Bucket, Refusal, Table};
+use support::{all_are_t, faults_of_tables, said, t, Said, LIST_OF_T};
 
 #[test]
 fn a_list_is_read_back() {
@@ -63,36 +33,34 @@ fn a_list_may_be_written_otherwise() {
         &LIST_OF_T["slot\tleft\tright\tshared\tedge\n".len()..],
         &LIST_OF_T.replace("slot\tleft", "Slot\tLEFT"),
     ]);
+    let all: Table = "0 - max - -\n".parse().expect("all keys");
+    for max in ["MAX", "Max", "mAX"] {
+        assert_eq!(format!("0 - {max} - -\n").parse().as_ref(), Ok(&all));
+    }
     let capitals = "0 4A 4B 4A 4C\n".parse::<Table>().expect("capitals");
     assert_eq!(capitals, "0 4a 4b 4a 4c\n".parse().expect("small letters"));
 }
 
-#[test]
-fn the_short_form_is_read() {
-    all_are_t(&[
-        "4130 43\n4135 -\n42\n",
-        "left edge\n4130 43\n4135 -\n42",
-        "\n# T\nleft\tedge # names\n\n4130\t43#43\n  4135  -\n42 # the end\n\n",
-        "4130 43\r\n4135 -\r\n42\r\n",
-    ]);
-    let all: Table = "- -\nmax\n".parse().expect("all keys");
-    assert!(all.contains_all_keys());
-}
-
 const ENDS_THERE: &str = "the next slot begins with 4135, so this one ends there";
 const SHARE_41: &str = "what the keys of this slot share is 41";
+const ALL_FROM_43: &str =
+    "what the keys of this slot share is 41; for - to become 43, the edge is 4341";
+const IN_A_LIST: &str = "in a list the field shared says what is replaced: write the edge alone";
+const ONLY_THE_END: &str = "max can only be the end of the table";
 const FOUR_FIELDS: &str = "a line of the list has 5 fields, and this has 4";
 const SIX_FIELDS: &str = "a line of the list has 5 fields, and this has 6";
 const NO_LIST: &str = "this says that a table was refused, and is no list";
 
 /// What is said of T's list, with spaces, and with another text in the place of one.
-const SLIPS: [(&str, &str, Said); 15] = [
+const SLIPS: [(&str, &str, Said<'static>); 18] = [
     ("0 4130", "1 4130", (2, 1, "this is slot 0", 0)),
     ("1 4135", "01 4135", (3, 1, "this is slot 1", 0)),
     ("4135 41", "4136 41", (2, 8, ENDS_THERE, 0)),
     ("4135 41", "max 41", (2, 8, ENDS_THERE, 0)),
     ("41 43", "4130 43", (2, 13, SHARE_41, 0)),
-    ("41 43", "- 43", (2, 13, SHARE_41, 0)),
+    ("41 43", "- 43", (2, 13, ALL_FROM_43, 0)),
+    ("41 43", "41 41>43", (2, 18, IN_A_LIST, 0)),
+    ("41 -", "41 é>-", (3, 15, IN_A_LIST, 0)),
     ("41 -", "42 -", (3, 11, SHARE_41, 0)),
     (" 41 43", " 43", (2, 1, FOUR_FIELDS, 0)),
     ("41 -", "41 - -", (3, 1, SIX_FIELDS, 0)),
@@ -102,11 +70,8 @@ const SLIPS: [(&str, &str, Said); 15] = [
         "413",
         (2, 6, "a byte has two digits, and the last has one", 0),
     ),
-    (
-        "4130",
-        "max",
-        (2, 3, "max can only be the end of the table", 0),
-    ),
+    ("4130", "max", (2, 3, ONLY_THE_END, 0)),
+    ("4130", "Max", (2, 3, ONLY_THE_END, 0)),
     (
         "4130",
         "4130\u{a0}",
@@ -126,53 +91,49 @@ fn faults_of_a_list() {
 }
 
 #[test]
-fn faults_of_the_short_form() {
-    let missing = "the last line is missing, with the end of the table: a key or max";
-    let after = "the line before has no edge and is the end, so no line follows";
-    let third = "a line has a left bound and an edge, or the end alone";
-    faults_of_tables(&[
-        ("", (1, 1, missing, 0)),
-        ("# nothing\n\n", (3, 1, missing, 0)),
-        ("left edge\n", (2, 1, missing, 0)),
-        ("4130 43\n4135 -\n", (3, 1, missing, 0)),
-        ("4130 43\n4135 -", (3, 1, missing, 0)),
-        ("4130\n4135 -\n42\n", (2, 1, after, 0)),
-        ("4130 43 -\n42\n", (1, 9, third, 0)),
-        ("4130 é -\n42\n", (1, 8, third, 0)),
-        (
-            "4130 43\nmax -\n",
-            (2, 1, "max can only be the end of the table", 0),
-        ),
-        ("4130 é\n42\n", (1, 6, "'é' is no hexadecimal digit", 0)),
-        ("é 43\n42\n", (1, 1, "'é' is no hexadecimal digit", 0)),
-        ("4130\t\t4x\n42\n", (1, 8, "'x' is no hexadecimal digit", 0)),
-    ]);
+fn a_moved_bound_changes_what_is_shared() {
+    let moved = LIST_OF_T.replace("4135", "4131");
+    let said = "what the keys of this slot share is 4130; for 41 to become 43, the edge is 4330";
+    faults_of_tables(&[(&moved, (2, 13, said, 0))]);
+    let mended = moved.replace("\t41\t43", "\t4130\t4330");
+    let mended: Table = mended.parse().expect("with that edge");
+    let key = "413007".parse().expect("a key");
+    assert_eq!(mended.translate_key(&key), t().translate_key(&key));
+    // Nothing is replaced without an edge, and a new one that is too long can't be written.
+    let share = "what the keys of this slot share is 4130";
+    let long = moved.replace("43\n", &format!("{}\n", "43".repeat(64)));
+    let none = moved.replace("43\n", "-\n");
+    faults_of_tables(&[(&long, (2, 13, share, 0)), (&none, (2, 13, share, 0))]);
 }
 
 #[test]
 fn refused_tables() {
-    let rise = "pivots don't rise strictly";
-    let number = "a table has 2 to 64 pivots";
-    let empty = "an edge where the range's prefix is empty";
+    let not_above = |upper, lower| {
+        format!("pivots don't rise strictly: {upper} isn't above {lower}, which comes before it")
+    };
+    let number = |count| format!("a table has 2 to 64 pivots, and this has {count}");
+    let empty = |left, right| {
+        format!("an edge where shared is empty: keys from {left} up to {right} share nothing; no edge is written -")
+    };
     let long = format!("41 -\n{} -\n42\n", "41".repeat(65));
     let many: String = (0..70).map(|i| format!("41{i:02x} -\n")).collect();
     faults_of_tables(&[
-        ("42\n", (2, 1, number, 1)),
-        (&format!("{many}42\n"), (65, 1, number, 1)),
+        ("42\n", (2, 1, &number(1), 1)),
+        (&format!("{many}42\n"), (65, 1, &number(71), 1)),
         (
             &long,
             (2, 1, "a key has at most 64 bytes, and this one has 65", 2),
         ),
-        ("41 -\n40 -\nmax\n", (2, 1, rise, 3)),
-        ("41 -\n41 -\nmax\n", (2, 1, rise, 3)),
-        ("41 -\n42 -\n42\n", (3, 1, rise, 3)),
-        ("41 -\n -  -\nmax\n", (2, 2, rise, 3)),
-        ("0 41 40 41 -\n", (1, 6, rise, 3)),
-        ("41 43\nmax\n", (1, 4, empty, 4)),
-        ("4130 -\n4135 .\n43\n", (2, 6, empty, 4)),
+        ("41 -\n40 -\nmax\n", (2, 1, &not_above("40", "41"), 3)),
+        ("41 -\n41 -\nmax\n", (2, 1, &not_above("41", "41"), 3)),
+        ("41 -\n42 -\n42\n", (3, 1, &not_above("42", "42"), 3)),
+        ("41 -\n -  -\nmax\n", (2, 2, &not_above("-", "41"), 3)),
+        ("0 41 40 41 -\n", (1, 6, &not_above("40", "41"), 3)),
+        ("41 43\nmax\n", (1, 4, &empty("41", "max"), 4)),
+        ("4130 -\n4135 .\n43\n", (2, 6, &empty("4135", "43"), 4)),
     ]);
     let error = "41 -\n40\n".parse::<Table>().unwrap_err();
-    let text = "line 2, column 1: refusal 3: pivots don't rise strictly";
+    let text = format!("line 2, column 1: refusal 3: {}", not_above("40", "41"));
     assert_eq!(error.to_string(), text);
     let error = "4x -\n40\n".parse::<Table>().unwrap_err();
     assert_eq!(
@@ -225,7 +186,12 @@ fn faults_of_buckets() {
         ("max 7\n", (1, 1, "'m' is no hexadecimal digit".into(), 0)),
         (
             &many,
-            (513, 1, "a bucket has at most 512 entries".into(), 1),
+            (
+                513,
+                1,
+                "a bucket has at most 512 entries, and this has 513".into(),
+                1,
+            ),
         ),
     ];
     for (text, wanted) in cases {

@@ -1,6 +1,6 @@
 //! What becomes of a key, by the library.
 use crate::failure::Refused;
-use crate::refused::{self, digits, long_key};
+use crate::refused::{self, digits, long_key, quoted};
 use joistdenim::{Key, Pair, Slot, Table};
 
 /// The answer to one key.
@@ -38,7 +38,7 @@ pub fn answer(table: &Table, asked: Vec<u8>, as_text: bool) -> Answer {
 pub fn shown(key: &[u8], as_text: bool) -> String {
     match (key, as_text) {
         ([], _) => format!("{} (empty)", Key::EMPTY),
-        (_, true) => format!("{} \"{}\"", digits(key), key.escape_ascii()),
+        (_, true) => format!("{} {}", digits(key), quoted(key)),
         (_, false) => digits(key),
     }
 }

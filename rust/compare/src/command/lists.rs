@@ -16,6 +16,9 @@ use std::hash::{DefaultHasher, Hash, Hasher};
 
 const SEED: u64 = 20_420_627;
 
+/// The refusal of an input in which no record is at fault.
+const SHAPE: u32 = 1;
+
 /// Hands inputs to a body, one by one.
 type Each = fn(&mut dyn FnMut(&[u8]));
 
@@ -125,7 +128,11 @@ fn each_of(group: &mut Group, sort: &Sort) {
 /// An input and its text, from one to the other; and whether it is a table.
 fn both_ways(group: &mut Group, input: &[u8], list: &str) -> bool {
     if let Some(number) = refusal_in(list) {
-        expect(group, &["list", "-"], input, &Err(number));
+        let ran = expect(group, &["list", "-"], input, &Err(number));
+        // Which record, and what is wrong with it more than that it is refused.
+        let told = ran.errors.contains(" at byte ") && !ran.errors.contains("it is malformed");
+        let told = told || number == SHAPE;
+        group.check(told, || text(&["list", "-"], input, &ran));
         no_list(group, list);
         return false;
     }
@@ -136,6 +143,15 @@ fn both_ways(group: &mut Group, input: &[u8], list: &str) -> bool {
     for names in ["", "left\tedge\n"] {
         let short = format!("{names}{}", short(list));
         expect(group, &["table", "-"], short.as_bytes(), &table);
+    }
+    let printed = Ok(printed_short(list).into_bytes());
+    let short = expect(group, &["list", "--short", "-"], input, &printed).output;
+    expect(group, &["table"], &short, &table);
+    for options in [
+        &["list", "--text", "-"][..],
+        &["list", "--text", "--short", "-"],
+    ] {
+        expect(group, &["table"], &command(options, input).output, &table);
     }
     true
 }
@@ -152,13 +168,30 @@ fn no_list(group: &mut Group, list: &str) {
 /// The short form, with spaces, comments and blank lines.
 fn short(list: &str) -> String {
     let (mut text, mut end) = (String::from("# Left bounds and edges.\n\n"), "");
-    for line in list.lines().skip(1) {
-        let fields: Vec<&str> = line.split('\t').collect();
-        let [slot, left, right, _, edge] = fields[..] else {
-            unreachable!("a line has five fields")
-        };
+    for [slot, left, right, _, edge] in slots(list) {
         text += &format!("{left}  {edge} # slot {slot}\n");
         end = right;
     }
     format!("{text} \n{end}")
+}
+
+/// The short form as it is printed, with what each edge replaces.
+fn printed_short(list: &str) -> String {
+    let (mut text, mut end) = (String::from("left\tedge\n"), "");
+    for [_, left, right, shared, edge] in slots(list) {
+        text += &match edge {
+            "-" => format!("{left}\t-\n"),
+            _ => format!("{left}\t{shared}>{edge}\n"),
+        };
+        end = right;
+    }
+    format!("{text}{end}\n")
+}
+
+/// The fields of each line of a list.
+fn slots(list: &str) -> impl Iterator<Item = [&str; 5]> {
+    list.lines().skip(1).map(|line| {
+        let fields: Vec<&str> = line.split('\t').collect();
+        fields.try_into().expect("a line has five fields")
+    })
 }

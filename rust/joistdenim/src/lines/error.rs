@@ -23,22 +23,31 @@ pub struct Place {
 #[derive(Clone, Debug, PartialEq, Eq)]
 pub enum Fault {
     Text(TextError),
-    /// By the library: what was read is no table, or no bucket; and what that means.
-    Refused(Refusal, &'static str),
+    /// By the library: what was read is no table, or no bucket; and what that means here.
+    Refused(Refusal, String),
     /// The line of a refused input.
     NoList,
     /// So many fields in place of five.
     Fields(usize),
     /// A field too many in the short form.
     ThirdField,
+    /// Spaces between what is replaced and the edge.
+    Parted,
+    /// What is replaced or the edge is missing beside its sign.
+    NoSide,
+    /// Something replaced, and no edge.
+    ReplacedByNone,
+    /// What is replaced stands before the edge, as in the short form.
+    ReplacedInList,
     /// This is another slot.
     Slot(usize),
     MaxLeft,
     /// The next slot begins here.
     Right(Key),
-    /// The keys of the slot share this.
-    Shared(Key),
+    /// The keys of the slot share this; and which edge does what the text says, if one does.
+    Shared(Key, String),
     AfterEnd,
+    EndWithEdge,
     NoEnd,
     /// So many fields in place of a key and a number.
     Entry(usize),
@@ -68,23 +77,39 @@ impl ListError {
     pub fn reason(&self) -> String {
         match &self.fault {
             Fault::Text(error) => error.to_string(),
-            Fault::Refused(_, meaning) => (*meaning).into(),
+            Fault::Refused(_, meaning) => meaning.clone(),
             Fault::NoList => "this says that a table was refused, and is no list".into(),
             Fault::Fields(count) => {
                 format!("a line of the list has 5 fields, and this has {count}")
             }
             Fault::ThirdField => "a line has a left bound and an edge, or the end alone".into(),
+            Fault::Parted => "no space stands beside >: write it as 41>43".into(),
+            Fault::NoSide => {
+                "before > stands what is replaced, behind it the edge, which is . if it is empty"
+                    .into()
+            }
+            Fault::ReplacedByNone => {
+                "without an edge nothing is replaced: write - alone, or . for the empty edge".into()
+            }
+            Fault::ReplacedInList => {
+                "in a list the field shared says what is replaced: write the edge alone".into()
+            }
             Fault::Slot(number) => format!("this is slot {number}"),
             Fault::MaxLeft => "max can only be the end of the table".into(),
             Fault::Right(left) => {
                 format!("the next slot begins with {left}, so this one ends there")
             }
-            Fault::Shared(shared) => format!("what the keys of this slot share is {shared}"),
+            Fault::Shared(shared, edge) => {
+                format!("what the keys of this slot share is {shared}{edge}")
+            }
             Fault::AfterEnd => {
                 "the line before has no edge and is the end, so no line follows".into()
             }
+            Fault::EndWithEdge => {
+                "the last line is the end of the table: a key or max alone, without an edge".into()
+            }
             Fault::NoEnd => {
-                "the last line is missing, with the end of the table: a key or max".into()
+                "the last line is missing, with the end of the table: a key or max alone".into()
             }
             Fault::Entry(count) => {
                 format!("a line of a bucket has 2 fields, a key and a number, and this has {count}")

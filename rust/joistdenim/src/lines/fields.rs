@@ -43,7 +43,26 @@ fn fields(text: &str, line: usize) -> Vec<Field<'_>> {
     fields
 }
 
-impl Field<'_> {
+impl<'a> Field<'a> {
+    /// What stands before the first such sign, the sign, and what stands behind it.
+    pub fn split(&self, sign: char) -> Option<(Self, Self, Self)> {
+        let (before, rest) = self.text.split_at(self.text.find(sign)?);
+        let (sign, behind) = rest.split_at(sign.len_utf8());
+        let at = before.chars().count();
+        Some((
+            self.part(before, 0),
+            self.part(sign, at),
+            self.part(behind, at + 1),
+        ))
+    }
+
+    /// A part of it, after so many characters.
+    fn part(&self, text: &'a str, before: usize) -> Self {
+        let mut place = self.place;
+        place.column += before;
+        Field { text, place }
+    }
+
     pub fn fault(&self, fault: Fault) -> ListError {
         let place = self.place;
         ListError { place, fault }

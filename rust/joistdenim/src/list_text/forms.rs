@@ -1,15 +1,17 @@
 //! The two forms: the list, and the short form.
+use super::edges::{of_list, of_short, too_many};
 use crate::edge::Edge;
 use crate::element::Element;
+use crate::faults::no_table;
 use crate::key::Key;
 use crate::lines::{Fault, Field, ListError, Place, Rows};
 use crate::refusal::Refusal;
-use crate::table::{records_of, RecordPlace, Table};
-use crate::text::MAX;
-use crate::MAX_PIVOTS;
+use crate::table::{records_of, RecordPlace, Slot, Table};
+use crate::text::{is_max, NO_EDGE};
+use crate::{MAX_PIVOTS, MIN_PIVOTS};
 
 const FULL: [&str; 5] = ["slot", "left", "right", "shared", "edge"];
-const SHORT: [&str; 2] = ["left", "edge"];
+pub const SHORT: [&str; 2] = ["left", "edge"];
 
 /// How the line of a refused input begins.
 const REFUSED: &str = "refused";
@@ -19,10 +21,9 @@ const REFUSED: &str = "refused";
 pub struct Read {
     pub pivots: Vec<Element>,
     pub edges: Vec<Edge>,
-    shared: Vec<Key>,
+    shared: Vec<Option<(Key, Place)>>,
     pivots_at: Vec<Place>,
     edges_at: Vec<Place>,
-    shared_at: Vec<Place>,
     end: Place,
 }
 
@@ -46,9 +47,9 @@ pub fn read(rows: &Rows) -> Result<Read, ListError> {
 }
 
 fn left_key(left: &Field) -> Result<Key, ListError> {
-    match left.text {
-        MAX => Err(left.fault(Fault::MaxLeft)),
-        _ => left.read(),
+    match is_max(left.text) {
+        true => Err(left.fault(Fault::MaxLeft)),
+        false => left.read(),
     }
 }
 
@@ -62,9 +63,9 @@ impl Read {
                 return Err(slot.fault(Fault::Slot(number)));
             }
             self.meets(&left)?;
-            self.push_slot(&left, &edge)?;
-            self.shared.push(shared.read()?);
-            self.shared_at.push(shared.place);
+            self.push_pivot(Element::Key(left_key(&left)?), &left);
+            self.push_edge(of_list(&edge)?, &edge);
+            self.shared.push(Some((shared.read()?, shared.place)));
             // The next left takes its place.
             self.push_pivot(right.read()?, &right);
         }
@@ -85,29 +86,48 @@ impl Read {
 
     fn short(mut self, rows: &[Vec<Field>]) -> Result<Self, ListError> {
         let mut ended = false;
-        for row in rows {
+        for (row, number) in rows.iter().zip(1..) {
             match row[..] {
                 _ if ended => return Err(row[0].fault(Fault::AfterEnd)),
-                [left, edge] => self.push_slot(&left, &edge)?,
+                [left, edge] if is_max(left.text) && number == rows.len() => {
+                    return Err(edge.fault(Fault::EndWithEdge));
+                }
+                [left, edge] => self.short_slot(&left, &edge)?,
                 [end] => {
                     self.push_pivot(end.read()?, &end);
                     ended = true;
                 }
-                _ => return Err(row[2].fault(Fault::ThirdField)),
+                _ => return Err(row[2].fault(too_many(row))),
             }
         }
-        let no_end = ListError {
-            place: self.end,
-            fault: Fault::NoEnd,
-        };
-        ended.then_some(self).ok_or(no_end)
+        match ended {
+            true => Ok(self),
+            false => Err(self.no_end(rows)),
+        }
     }
 
-    fn push_slot(&mut self, left: &Field, edge: &Field) -> Result<(), ListError> {
+    fn short_slot(&mut self, left: &Field, edge: &Field) -> Result<(), ListError> {
         self.push_pivot(Element::Key(left_key(left)?), left);
-        self.edges.push(edge.read()?);
-        self.edges_at.push(edge.place);
+        let (read, replaced) = of_short(edge)?;
+        self.push_edge(read, edge);
+        self.shared.push(replaced.map(|key| (key, edge.place)));
         Ok(())
+    }
+
+    /// A last line without an edge may be the end, with a field too many; else the end is missing.
+    fn no_end(&self, rows: &[Vec<Field>]) -> ListError {
+        match rows.last().map(Vec::as_slice) {
+            Some([_, edge]) if edge.text == NO_EDGE => edge.fault(Fault::EndWithEdge),
+            _ => ListError {
+                place: self.end,
+                fault: Fault::NoEnd,
+            },
+        }
+    }
+
+    fn push_edge(&mut self, edge: Edge, field: &Field) {
+        self.edges.push(edge);
+        self.edges_at.push(field.place);
     }
 
     fn push_pivot(&mut self, pivot: Element, field: &Field) {
@@ -119,31 +139,54 @@ impl Read {
     /// at the first pivot too many, or at the end where there are too few.
     pub fn refused(&self, refusal: Refusal) -> ListError {
         let (pivots, edges) = records_of(&self.pivots, &self.edges);
-        let place = match Table::refused_record(&pivots, &edges) {
+        let record = Table::refused_record(&pivots, &edges);
+        let place = match record {
             Some(RecordPlace::Pivot(place)) => self.pivots_at.get(place),
             Some(RecordPlace::Edge(slot)) => self.edges_at.get(slot),
             None => self.pivots_at.get(MAX_PIVOTS),
         };
-        let meaning = match refusal {
-            Refusal::Shape => "a table has 2 to 64 pivots",
-            refusal => refusal.meaning(),
+        let place = *place.unwrap_or(&self.end);
+        let fault = Fault::Refused(refusal, self.reason(record));
+        ListError { place, fault }
+    }
+
+    fn reason(&self, record: Option<RecordPlace>) -> String {
+        let Some(record) = record else {
+            let count = self.pivots.len();
+            return format!(
+                "a table has {MIN_PIVOTS} to {MAX_PIVOTS} pivots, and this has {count}"
+            );
         };
-        ListError {
-            place: *place.unwrap_or(&self.end),
-            fault: Fault::Refused(refusal, meaning),
+        let reason = no_table(record, |place| self.pivots.get(place).copied());
+        match record {
+            RecordPlace::Pivot(_) => reason,
+            RecordPlace::Edge(_) => format!("{reason}; no edge is written -"),
         }
     }
 
+    /// Whether the keys of each slot share what the text says of them.
     pub fn check_shared(&self, table: &Table) -> Result<(), ListError> {
-        let said = self.shared.iter().zip(&self.shared_at);
-        for (slot, (shared, place)) in table.slots().zip(said) {
-            if slot.shared != *shared {
-                return Err(ListError {
-                    place: *place,
-                    fault: Fault::Shared(slot.shared),
-                });
+        for (slot, said) in table.slots().zip(&self.shared) {
+            match said {
+                Some((said, place)) if slot.shared != *said => {
+                    let fault = Fault::Shared(slot.shared, edge_for(&slot, said));
+                    let place = *place;
+                    return Err(ListError { place, fault });
+                }
+                _ => {}
             }
         }
         Ok(())
+    }
+}
+
+/// Which edge does in the slot what the text says, if its keys share more than it says: with a
+/// bound moved and the edge left as it was, they would be renamed otherwise.
+fn edge_for(slot: &Slot, said: &Key) -> String {
+    let wanted = slot.edge.prefix();
+    let edge = wanted.and_then(|new| slot.shared.change_prefix(said, new).ok());
+    match edge.map(Edge::Prefix) {
+        Some(edge) => format!("; for {said} to become {}, the edge is {edge}", slot.edge),
+        None => String::new(),
     }
 }
