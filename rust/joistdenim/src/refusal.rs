@@ -13,23 +13,8 @@ macro_rules! refusals {
             $(#[doc = $meaning] $name = $number,)*
         }
 
-        impl Refusal {
-            /// What a C function returned: 0 is accepted.
-            pub(crate) fn check(number: u32) -> Result<(), Refusal> {
-                match number {
-                    0 => Ok(()),
-                    $($number => Err(Refusal::$name),)*
-                    other => unreachable!("the archive has no refusal {other}"),
-                }
-            }
-
-            /// What it means, for any call that has it.
-            pub fn meaning(self) -> &'static str {
-                match self {
-                    $(Refusal::$name => $meaning,)*
-                }
-            }
-        }
+        /// In the order of the numbers, which begin with 1.
+        const REFUSALS: &[(Refusal, &str)] = &[$((Refusal::$name, $meaning)),*];
     };
 }
 
@@ -55,6 +40,22 @@ impl Refusal {
     /// The number, 1 to 15.
     pub fn number(self) -> u32 {
         self as u32
+    }
+
+    /// What it means, for any call that has it.
+    pub fn meaning(self) -> &'static str {
+        REFUSALS[self as usize - 1].1
+    }
+
+    /// What a C function returned: 0 is accepted.
+    pub(crate) fn check(number: u32) -> Result<(), Refusal> {
+        let Some(place) = (number as usize).checked_sub(1) else {
+            return Ok(());
+        };
+        match REFUSALS.get(place) {
+            Some((refusal, _)) => Err(*refusal),
+            None => unreachable!("the archive has no refusal {number}"),
+        }
     }
 }
 
