@@ -1,8 +1,11 @@
 //! Values made of slices, vectors and arrays alike, and what is printed where `main` answers an
 //! error.
+mod support;
+
 use joistdenim::{list_table, Bucket, Edge, Element, Entry, Key, Pair, Refusal, Table};
 use joistdenim::{ENTRY_SIZE, PAIR_SIZE, RECORD_SIZE};
 use std::fmt::Debug;
+use support::{key, t};
 
 /// What is made of the bytes, lent or given in each way.
 fn made<T, const N: usize>(bytes: [u8; N]) -> Result<T, Refusal>
@@ -20,14 +23,9 @@ where
     wanted
 }
 
-/// Document 01's table T.
-fn t() -> Table {
-    "4130 43\n4135 -\n42\n".parse().expect("T")
-}
-
 #[test]
 fn vectors_and_arrays_are_taken_as_slices_are() {
-    let key: Key = "4130".parse().unwrap();
+    let key = key("4130");
     assert_eq!(made([0x41, 0x30]), Ok(key));
     assert_eq!(made(*key.record()), Ok(Element::Key(key)));
     assert_eq!(made(*Element::Max.record()), Ok(Element::Max));
