@@ -19,6 +19,8 @@ fn main() {
             archive.display()
         );
     }
+    // For the build script of bench, which has an archive in the same folder.
+    println!("cargo::metadata=dir={}", dir.display());
     println!("cargo::rustc-link-search=native={}", dir.display());
     println!("cargo::rustc-link-lib=static=joistdenim");
 }
