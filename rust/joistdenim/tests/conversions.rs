@@ -52,6 +52,23 @@ fn vectors_and_arrays_are_refused_as_slices_are() {
     assert_eq!(made::<Table, 1>([0]), Err(Refusal::Shape));
 }
 
+#[test]
+fn values_give_back_what_they_are_made_of() {
+    let (prefix, empty) = (key("43"), Key::EMPTY);
+    assert_eq!(Edge::from(prefix).prefix(), Some(&prefix));
+    assert_eq!(Edge::from(empty).prefix(), Some(&empty));
+    assert_eq!(
+        (Edge::Absent.prefix(), Edge::default()),
+        (None, Edge::Absent)
+    );
+    assert_eq!(Element::from(prefix).key(), Some(&prefix));
+    assert_eq!(Element::Max.key(), None);
+    let pair = Pair::new(&[0x41], &[0x43]).unwrap();
+    assert_eq!(<[u8; PAIR_SIZE]>::from(pair), *pair.as_bytes());
+    let texts = [pair, Pair::default()].map(|pair| format!("{pair:?}"));
+    assert_eq!(texts, ["Pair([41] to [43])", "Pair(absent)"]);
+}
+
 /// T with other bytes from a place on, refused with the number that its list has.
 #[test]
 fn a_table_of_bytes_is_refused_as_the_list_program_refuses_it() {
