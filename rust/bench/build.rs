@@ -1,13 +1,19 @@
-//! Links `counts`, and no other program, to its archive: in JOISTDENIM_LIB_DIR, else where
-//! `rt staticlib` writes it.
+//! Links `counts`, and no other program, to its archive, which `rt staticlib` writes beside that of
+//! the library.
 use std::env;
-use std::path::{Path, PathBuf};
+use std::path::PathBuf;
 
 fn main() {
-    let beside = Path::new(env!("CARGO_MANIFEST_DIR")).join("../../target/staticlib");
-    let dir = env::var_os("JOISTDENIM_LIB_DIR").map_or(beside, PathBuf::from);
-    let archive = dir.join("libcounts.a");
-    println!("cargo:rerun-if-env-changed=JOISTDENIM_LIB_DIR");
-    println!("cargo:rerun-if-changed={}", archive.display());
-    println!("cargo:rustc-link-arg-bin=counts={}", archive.display());
+    let dir = env::var_os("DEP_JOISTDENIM_DIR").expect("the wrapper's build script tells it");
+    let archive = PathBuf::from(dir).join("libcounts.a");
+    println!("cargo::rerun-if-changed={}", archive.display());
+    if !archive.is_file() {
+        // No error, as the other programs of this package do without.
+        println!(
+            "cargo::warning=there is no {}, which the program counts needs: make it with \
+             'rt staticlib counts'",
+            archive.display()
+        );
+    }
+    println!("cargo::rustc-link-arg-bin=counts={}", archive.display());
 }

@@ -28,7 +28,9 @@ pub struct Bucket(Vec<u8>);
 /// A key with its number.
 #[derive(Clone, Copy, Debug, PartialEq, Eq, Hash)]
 pub struct Entry {
+    /// The key, which other entries may have too.
     pub key: Key,
+    /// The number, which is the caller's and stays with its key.
     pub number: u32,
 }
 
@@ -39,10 +41,12 @@ impl Bucket {
         Bucket::try_from(&bytes[..])
     }
 
+    /// The entries, one after the other, as the calls on slices are lent them.
     pub fn as_bytes(&self) -> &[u8] {
         &self.0
     }
 
+    /// The entries, in their order.
     pub fn entries(&self) -> impl ExactSizeIterator<Item = Entry> + '_ {
         self.0.chunks(ENTRY_SIZE).map(|entry| {
             let key = entry_key(entry).and_then(Key::try_from);
@@ -66,6 +70,7 @@ impl Bucket {
 }
 
 impl Entry {
+    /// The key's record, and the number in four bytes, high byte first.
     pub fn to_bytes(&self) -> [u8; ENTRY_SIZE] {
         let mut bytes = [0; ENTRY_SIZE];
         bytes[..RECORD_SIZE].copy_from_slice(self.key.record());

@@ -22,8 +22,10 @@ use std::str::FromStr;
 #[derive(Clone, Copy, Debug, Default, PartialEq, Eq, Hash)]
 #[non_exhaustive]
 pub enum Edge {
+    /// No edge: keys stay as they are.
     #[default]
     Absent,
+    /// This in place of the range's prefix; it may be empty.
     Prefix(Key),
 }
 
@@ -36,6 +38,7 @@ impl Edge {
         }
     }
 
+    /// What is put in place, or `None` where there is no edge.
     pub fn prefix(&self) -> Option<&Key> {
         match self {
             Edge::Absent => None,

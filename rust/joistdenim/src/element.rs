@@ -22,7 +22,9 @@ use std::str::FromStr;
 /// ```
 #[derive(Clone, Copy, Debug, PartialEq, Eq, Hash)]
 pub enum Element {
+    /// A key, and no more.
     Key(Key),
+    /// What is above every key.
     Max,
 }
 
@@ -35,6 +37,7 @@ impl Element {
         }
     }
 
+    /// The key, or `None` for max.
     pub fn key(&self) -> Option<&Key> {
         match self {
             Element::Key(key) => Some(key),

@@ -27,8 +27,10 @@ use std::str::FromStr;
 pub struct Key(Record);
 
 impl Key {
+    /// The key of no bytes, which is below every other.
     pub const EMPTY: Key = Key([0; RECORD_SIZE]);
 
+    /// Its bytes alone, as the calls on slices are lent a key.
     pub fn as_bytes(&self) -> &[u8] {
         // No length is over 64, so its low byte is all of it.
         &self.0[KEY_AT..][..usize::from(self.0[1])]
@@ -39,10 +41,12 @@ impl Key {
         &self.0
     }
 
+    /// How many bytes it has, 0 to 64.
     pub fn len(&self) -> usize {
         self.as_bytes().len()
     }
 
+    /// Whether it is the key of no bytes.
     pub fn is_empty(&self) -> bool {
         *self == Key::EMPTY
     }
@@ -71,14 +75,6 @@ impl TryFrom<&[u8]> for Key {
     fn try_from(bytes: &[u8]) -> Result<Self, Refusal> {
         // With nothing changed to nothing it is itself.
         Key::written(|dest| change_prefix(bytes, &[], &[], dest))
-    }
-}
-
-impl<const N: usize> TryFrom<&[u8; N]> for Key {
-    type Error = Refusal;
-
-    fn try_from(bytes: &[u8; N]) -> Result<Self, Refusal> {
-        Key::try_from(&bytes[..])
     }
 }
 

@@ -17,8 +17,11 @@
 //! # Ok::<(), joistdenim::Refusal>(())
 //! ```
 
+#![deny(missing_docs)]
+
 mod bucket;
 mod buckets;
+mod conversions;
 mod cuts;
 mod edge;
 mod element;
@@ -70,8 +73,9 @@ pub use text::{from_hex, TextError};
 pub const MAX_LEN: usize = 64;
 /// The bytes of a record.
 pub const RECORD_SIZE: usize = 66;
-/// The fewest and the most pivots of a table.
+/// The fewest pivots of a table.
 pub const MIN_PIVOTS: usize = 2;
+/// The most pivots of a table.
 pub const MAX_PIVOTS: usize = 64;
 /// The bytes of an entry: a record with a key, and a number of four bytes.
 pub const ENTRY_SIZE: usize = RECORD_SIZE + 4;

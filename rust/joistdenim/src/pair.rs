@@ -32,6 +32,7 @@ const NEW_AT: usize = OLD_AT + MAX_LEN;
 pub struct Pair([u8; PAIR_SIZE]);
 
 impl Pair {
+    /// The absent pair.
     pub const ABSENT: Pair = Pair([0; PAIR_SIZE]);
 
     /// The pair from an old prefix to a new one. Refuses 2, a prefix over 64 bytes.
@@ -61,6 +62,7 @@ impl Pair {
         (there == 1).then(|| (prefix(OLD_AT, old), prefix(NEW_AT, new)))
     }
 
+    /// Its record, as the calls on slices are lent it.
     pub fn as_bytes(&self) -> &[u8; PAIR_SIZE] {
         &self.0
     }

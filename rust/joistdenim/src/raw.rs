@@ -19,6 +19,7 @@ pub use renaming::*;
 pub use tables::*;
 
 extern "C" {
+    /// The call [`compare`](crate::compare).
     pub fn jd_compare(
         a: *const u8,
         a_len: usize,
@@ -27,10 +28,13 @@ extern "C" {
         order: *mut i64,
     ) -> u32;
 
+    /// The call [`pivot_key`](crate::pivot_key).
     pub fn jd_pivot_key(record: *const u8, record_len: usize, length: *mut u64) -> u32;
 
+    /// The call [`entry_key`](crate::entry_key).
     pub fn jd_entry_key(entry: *const u8, entry_len: usize, length: *mut u64) -> u32;
 
+    /// The call [`change_prefix`](crate::change_prefix).
     pub fn jd_change_prefix(
         key: *const u8,
         key_len: usize,
@@ -43,6 +47,7 @@ extern "C" {
         length: *mut u64,
     ) -> u32;
 
+    /// The call [`pivot_lcp`](crate::pivot_lcp).
     pub fn jd_pivot_lcp(
         left: *const u8,
         left_len: usize,
@@ -51,6 +56,7 @@ extern "C" {
         length: *mut u64,
     ) -> u32;
 
+    /// The call [`shortest_uncommon_prefix`](crate::shortest_uncommon_prefix).
     pub fn jd_shortest_uncommon_prefix(
         prefix: *const u8,
         prefix_len: usize,

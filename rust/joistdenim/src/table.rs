@@ -46,17 +46,24 @@ pub struct Table {
 /// A slot of a table: its number from 0, its bounds, what all its keys begin with, and its edge.
 #[derive(Clone, Copy, Debug, PartialEq, Eq, Hash)]
 pub struct Slot {
+    /// Its number, from 0.
     pub number: usize,
+    /// Its lower bound, which is in it.
     pub left: Key,
+    /// Its upper bound, which isn't.
     pub right: Element,
+    /// The prefix that all its keys share.
     pub shared: Key,
+    /// What replaces that prefix.
     pub edge: Edge,
 }
 
 /// A record of a table, the pivots and the edges each counted from 0.
 #[derive(Clone, Copy, Debug, PartialEq, Eq, Hash)]
 pub enum RecordPlace {
+    /// So many pivots stand before it.
     Pivot(usize),
+    /// So many edges stand before it.
     Edge(usize),
 }
 
@@ -74,6 +81,13 @@ impl Table {
             pivots: pivots.to_vec(),
             edges: edges.to_vec(),
         })
+    }
+
+    /// The table of the list program's input, which is what `to_bytes` gives. Refuses 1 (bytes that
+    /// are missing or follow, too), 2, 3, 4.
+    pub fn from_bytes(input: &[u8]) -> Result<Self, Refusal> {
+        let (pivots, edges) = Table::split_input(input).ok_or(Refusal::Shape)?;
+        Table::from_records(pivots, edges)
     }
 
     /// The records of the pivots, by their count, and of the edges in the list program's input;
@@ -112,22 +126,25 @@ impl Table {
         (&self.pivots, &self.edges)
     }
 
-    /// The count of the pivots, the pivots and the edges.
+    /// The count of the pivots, the pivots and the edges: the list program's input.
     pub fn to_bytes(&self) -> Vec<u8> {
         let count = (self.slots().len() + 1) as u16;
         [&count.to_be_bytes()[..], &self.pivots, &self.edges].concat()
     }
 
+    /// The pivots, in order.
     pub fn pivots(&self) -> impl ExactSizeIterator<Item = Element> + '_ {
         let pivots = self.pivots.chunks(RECORD_SIZE).map(Element::try_from);
         pivots.map(|pivot| pivot.expect(WELL_FORMED))
     }
 
+    /// The edges, one for each slot.
     pub fn edges(&self) -> impl ExactSizeIterator<Item = Edge> + '_ {
         let edges = self.edges.chunks(RECORD_SIZE).map(Edge::try_from);
         edges.map(|edge| edge.expect(WELL_FORMED))
     }
 
+    /// The slots, from the lowest on.
     pub fn slots(&self) -> impl ExactSizeIterator<Item = Slot> + '_ {
         (0..self.edges.len() / RECORD_SIZE).map(|number| self.slot(number))
     }
@@ -245,13 +262,12 @@ fn written(
     Ok(Table { pivots, edges })
 }
 
-/// Reads the list program's input. Refuses 1 (bytes that are missing or follow, too), 2, 3, 4.
+/// As by `from_bytes`.
 impl TryFrom<&[u8]> for Table {
     type Error = Refusal;
 
     fn try_from(input: &[u8]) -> Result<Self, Refusal> {
-        let (pivots, edges) = Table::split_input(input).ok_or(Refusal::Shape)?;
-        Table::from_records(pivots, edges)
+        Table::from_bytes(input)
     }
 }
 

@@ -12,15 +12,28 @@ pub const NO_EDGE: &str = "-";
 pub const EMPTY_EDGE: &str = ".";
 
 /// Why a text is no key, element or edge.
-#[derive(Clone, Copy, Debug, PartialEq, Eq)]
+#[derive(Clone, Copy, PartialEq, Eq)]
 #[non_exhaustive]
 pub enum TextError {
     /// After so many characters comes one that is no hexadecimal digit.
-    NoDigit { place: usize, found: char },
+    NoDigit {
+        /// How many characters come before it.
+        place: usize,
+        /// The character.
+        found: char,
+    },
     /// After so many digits the second one of a byte is missing.
-    HalfByte { place: usize },
+    HalfByte {
+        /// How many characters come before the missing one.
+        place: usize,
+    },
     /// By the library: a key of so many bytes, over 64.
-    Refused { refusal: Refusal, length: usize },
+    Refused {
+        /// The library's refusal, 2.
+        refusal: Refusal,
+        /// The bytes of the key.
+        length: usize,
+    },
 }
 
 impl TextError {
@@ -32,6 +45,7 @@ impl TextError {
         }
     }
 
+    /// The library's refusal, where that is the reason.
     pub fn refusal(&self) -> Option<Refusal> {
         match *self {
             TextError::Refused { refusal, .. } => Some(refusal),

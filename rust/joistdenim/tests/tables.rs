@@ -1,19 +1,9 @@
 //! Tables as values: what they are made of, what they refuse, and that their methods hand on what
 //! the calls answer.
+mod support;
+
 use joistdenim::{wf_edges, Edge, Element, Key, RecordPlace, Refusal, Table, MAX_PIVOTS};
-
-fn key(text: &str) -> Key {
-    text.parse().expect("a key")
-}
-
-fn table(text: &str) -> Table {
-    text.parse().expect("a table")
-}
-
-/// Document 01's table T.
-fn t() -> Table {
-    table("4130 43\n4135 -\n42\n")
-}
+use support::{key, pivots, t, table};
 
 #[test]
 fn a_table_is_the_same_by_parts_by_bytes_and_by_text() {
@@ -131,12 +121,6 @@ fn a_table_has_at_most_64_pivots() {
 
 #[test]
 fn the_record_that_is_at_fault_is_found() {
-    let records = |text: &str| {
-        let elements = text.split(' ').map(|text| text.parse::<Element>().unwrap());
-        elements
-            .flat_map(|element| *element.record())
-            .collect::<Vec<u8>>()
-    };
     let absent = Edge::Absent.record().repeat(2);
     let edge = [*Edge::Absent.record(), *key("43").record()].concat();
     let wrong = [*Edge::Absent.record(), *Element::Max.record()].concat();
@@ -152,11 +136,11 @@ fn the_record_that_is_at_fault_is_found() {
         ("41 42", &absent, None),
         ("42 41", &wrong, None),
     ];
-    for (pivots, edges, place) in cases {
-        let found = Table::refused_record(&records(pivots), edges);
-        assert_eq!(found, place, "{pivots}");
+    for (text, edges, place) in cases {
+        let found = Table::refused_record(&pivots(text), edges);
+        assert_eq!(found, place, "{text}");
     }
-    let last = [&records("41 42")[..], &[1; 66]].concat();
+    let last = [&pivots("41 42")[..], &[1; 66]].concat();
     let found = Table::refused_record(&last, &absent);
     assert_eq!(found, Some(RecordPlace::Pivot(2)));
 }

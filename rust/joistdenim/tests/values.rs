@@ -1,13 +1,12 @@
 //! Keys, elements, edges and buckets as values: what they are made of, and what they refuse.
+mod support;
+
 use joistdenim::{
     from_hex, Bucket, Edge, Element, Entry, Key, Refusal, TextError, ENTRY_SIZE, MAX_ENTRIES,
     RECORD_SIZE,
 };
 use std::collections::HashSet;
-
-fn key(text: &str) -> Key {
-    text.parse().expect("a key")
-}
+use support::key;
 
 /// The record with another length field.
 fn marked(field: u16) -> [u8; RECORD_SIZE] {

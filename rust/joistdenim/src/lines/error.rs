@@ -7,7 +7,7 @@ use std::fmt;
 
 /// Why a text isn't the list of a table, or a bucket, and where: the line and the column, in
 /// characters, both from 1.
-#[derive(Clone, Debug, PartialEq, Eq)]
+#[derive(Clone, PartialEq, Eq)]
 pub struct ListError {
     pub(crate) place: Place,
     pub(crate) fault: Fault,
@@ -55,10 +55,12 @@ pub enum Fault {
 }
 
 impl ListError {
+    /// The line, from 1.
     pub fn line(&self) -> usize {
         self.place.line
     }
 
+    /// The column in characters, from 1.
     pub fn column(&self) -> usize {
         self.place.column
     }

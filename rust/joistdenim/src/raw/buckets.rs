@@ -1,6 +1,7 @@
 //! Buckets under another prefix.
 
 extern "C" {
+    /// The call [`translate_bucket`](crate::translate_bucket).
     pub fn jd_translate_bucket(
         bucket: *const u8,
         bucket_len: usize,
@@ -13,6 +14,7 @@ extern "C" {
         kept: *mut u64,
     ) -> u32;
 
+    /// The call [`translate_bucket_will_fit`](crate::translate_bucket_will_fit).
     pub fn jd_translate_bucket_will_fit(
         bucket: *const u8,
         bucket_len: usize,

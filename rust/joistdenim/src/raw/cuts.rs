@@ -1,6 +1,7 @@
 //! The cuts of a table, a new pivot in it, two tables put together, and the translation of a key.
 
 extern "C" {
+    /// The call [`split_left`](crate::split_left).
     pub fn jd_split_left(
         pivots: *const u8,
         pivots_len: usize,
@@ -15,6 +16,7 @@ extern "C" {
         written: *mut u64,
     ) -> u32;
 
+    /// The call [`split_right`](crate::split_right).
     pub fn jd_split_right(
         pivots: *const u8,
         pivots_len: usize,
@@ -29,6 +31,7 @@ extern "C" {
         written: *mut u64,
     ) -> u32;
 
+    /// The call [`insert_pivot`](crate::insert_pivot).
     pub fn jd_insert_pivot(
         pivots: *const u8,
         pivots_len: usize,
@@ -43,6 +46,7 @@ extern "C" {
         written: *mut u64,
     ) -> u32;
 
+    /// The call [`join`](crate::join).
     pub fn jd_join(
         first_pivots: *const u8,
         first_pivots_len: usize,
@@ -59,6 +63,7 @@ extern "C" {
         written: *mut u64,
     ) -> u32;
 
+    /// The call [`translate_key`](crate::translate_key).
     pub fn jd_translate_key(
         pivots: *const u8,
         pivots_len: usize,

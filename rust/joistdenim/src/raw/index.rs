@@ -1,6 +1,7 @@
 //! The index beside a bucket.
 
 extern "C" {
+    /// The call [`build_index`](crate::build_index).
     pub fn jd_build_index(
         pivots: *const u8,
         pivots_len: usize,
@@ -11,6 +12,7 @@ extern "C" {
         total: *mut u64,
     ) -> u32;
 
+    /// The call [`check_index`](crate::check_index).
     pub fn jd_check_index(
         pivots: *const u8,
         pivots_len: usize,
@@ -21,6 +23,7 @@ extern "C" {
         total: *mut u64,
     ) -> u32;
 
+    /// The call [`slot_entries`](crate::slot_entries).
     pub fn jd_slot_entries(
         pivots: *const u8,
         pivots_len: usize,
@@ -32,6 +35,7 @@ extern "C" {
         count: *mut u64,
     ) -> u32;
 
+    /// The call [`cut_index_left`](crate::cut_index_left).
     pub fn jd_cut_index_left(
         pivots: *const u8,
         pivots_len: usize,
@@ -48,6 +52,7 @@ extern "C" {
         total: *mut u64,
     ) -> u32;
 
+    /// The call [`cut_index_right`](crate::cut_index_right).
     pub fn jd_cut_index_right(
         pivots: *const u8,
         pivots_len: usize,
@@ -64,6 +69,7 @@ extern "C" {
         total: *mut u64,
     ) -> u32;
 
+    /// The call [`translate_index`](crate::translate_index).
     pub fn jd_translate_index(
         pivots: *const u8,
         pivots_len: usize,

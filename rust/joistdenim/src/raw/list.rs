@@ -1,6 +1,7 @@
 //! The list of a table.
 
 extern "C" {
+    /// The call [`list_table`](crate::list_table).
     pub fn jd_list_table(
         input: *const u8,
         input_len: usize,

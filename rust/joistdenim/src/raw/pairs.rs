@@ -1,6 +1,7 @@
 //! Pairs, and the pair of a key in a table.
 
 extern "C" {
+    /// The call [`translate`](crate::translate).
     pub fn jd_translate(
         pivots: *const u8,
         pivots_len: usize,
@@ -13,6 +14,7 @@ extern "C" {
         there: *mut u64,
     ) -> u32;
 
+    /// The call [`reverse_pair`](crate::reverse_pair).
     pub fn jd_reverse_pair(
         pair: *const u8,
         pair_len: usize,
@@ -21,6 +23,7 @@ extern "C" {
         there: *mut u64,
     ) -> u32;
 
+    /// The call [`apply_pair`](crate::apply_pair).
     pub fn jd_apply_pair(
         pair: *const u8,
         pair_len: usize,
@@ -31,6 +34,7 @@ extern "C" {
         length: *mut u64,
     ) -> u32;
 
+    /// The call [`compose_pairs`](crate::compose_pairs).
     pub fn jd_compose_pairs(
         pair_a: *const u8,
         pair_a_len: usize,

@@ -1,6 +1,7 @@
 //! Pivots and edges under another prefix, and the question of parent and child.
 
 extern "C" {
+    /// The call [`translate_pivot_pair`](crate::translate_pivot_pair).
     pub fn jd_translate_pivot_pair(
         left: *const u8,
         left_len: usize,
@@ -15,6 +16,7 @@ extern "C" {
         written: *mut u64,
     ) -> u32;
 
+    /// The call [`translate_pivots`](crate::translate_pivots).
     pub fn jd_translate_pivots(
         pivots: *const u8,
         pivots_len: usize,
@@ -29,6 +31,7 @@ extern "C" {
         written: *mut u64,
     ) -> u32;
 
+    /// The call [`translate_edges`](crate::translate_edges).
     pub fn jd_translate_edges(
         pivots: *const u8,
         pivots_len: usize,
@@ -39,6 +42,7 @@ extern "C" {
         written: *mut u64,
     ) -> u32;
 
+    /// The call [`parent_keys_in_child_range`](crate::parent_keys_in_child_range).
     pub fn jd_parent_keys_in_child_range(
         parent_pivots: *const u8,
         parent_pivots_len: usize,
