@@ -79,11 +79,8 @@ impl Row {
         let spans = |i: usize| spans_of(cell(i)).into_iter().flatten();
         let file = spans(0).next().unwrap_or_default();
         let inside = format!("{SPECS}/{file}.antt");
-        let path = if repository.has(&inside) {
-            inside
-        } else {
-            file
-        };
+        let in_model = repository.text(&inside).is_some();
+        let path = if in_model { inside } else { file };
         let names: Vec<Evidence> = spans(1).map(|name| Evidence::at(&path, &name)).collect();
         let mut faults = vec![];
         if repository.text(&path).is_none() {

@@ -1,7 +1,7 @@
 //! The definitions of the crates' specs and the types of their code, and which of them each uses, by name.
 use crate::evidence::{public, Evidence};
 use crate::repository::Repository;
-use crate::scope::{crate_of, names_in, Scope};
+use crate::scope::{is_in, names_in, Scope};
 use std::collections::{BTreeMap, BTreeSet};
 
 pub struct Definitions<'a> {
@@ -24,11 +24,7 @@ struct Item {
 
 impl<'a> Definitions<'a> {
     pub fn of(repository: &'a Repository) -> Self {
-        let is_read = |path: &str| {
-            let folder = crate_of(path).map(|(_, folder)| folder);
-            (folder == Some("specs") && path.ends_with(".antt"))
-                || (folder == Some("src") && path.ends_with(".rt"))
-        };
+        let is_read = |path: &str| is_in(path, "specs", ".antt") || is_in(path, "src", ".rt");
         let files = repository.files().filter(|(path, _)| is_read(path));
         Definitions {
             files: files
@@ -63,11 +59,12 @@ impl<'a> Definitions<'a> {
         let Some(file) = self.files.get(path) else {
             return BTreeSet::new();
         };
-        let own = |name: &str| {
-            let name = &file.items[*file.owners.get(name)?].name;
-            Some(Evidence::at(path, name))
+        let named = |name: String| {
+            let is_own = file.owners.contains_key(&name);
+            let own = is_own.then(|| Evidence::at(path, &name));
+            let of = own.or_else(|| file.scope.get(&name).cloned())?;
+            Some(self.owner(&of))
         };
-        let named = |name: String| own(&name).or_else(|| Some(self.owner(file.scope.get(&name)?)));
         names_in(text)
             .filter_map(|name| named(name.to_string()).or_else(|| named(format!("_{name}_"))))
             .collect()
@@ -181,4 +178,90 @@ fn type_name(line: &str) -> Option<&str> {
     let mut words = declared.split([' ', '<', '{', '(']);
     let is_type = matches!(words.next()?, "enum" | "struct");
     is_type.then(|| words.next()).flatten()
+}
+
+#[cfg(test)]
+mod tests {
+    use super::Definitions;
+    use crate::evidence::Evidence;
+    use crate::repository::Repository;
+
+    const TYPES: &str = "crates/model/src/lib.rt";
+    const CUT: &str = "crates/model/specs/cuts/Cut.antt";
+    const END: &str = "crates/model/specs/cuts/End.antt";
+
+    const FILES: [(&str, &str); 3] = [
+        (
+            TYPES,
+            "pub enum Answer {\n    No(Why),\n}\n\npub enum Why {\n    Long, // unlike Answer\n}\n\nfn own() -> Answer {}\n",
+        ),
+        (
+            CUT,
+            "use Rattle.model.specs.declared.Answer.the-variants as answers
+use Rattle.model.specs.declared.Why.the-variants.{Long}
+
+-- a half
+pub data Cut : Type 0 where
+  _or_ : ℕ → ℕ → Cut
+
+abbrev pub cut : ℕ
+cut = long
+
+long : ℕ
+long = answers.No Long
+
+abbrev pub half {ℓ} : ℕ
+half = 1
+infix 5 _or_
+",
+        ),
+        (
+            END,
+            "use Rattle.model.specs.cuts.Cut.{_or_, cut, half}
+
+pub record Same : Type 0 where
+  pub cut : ℕ
+
+abbrev pub end : ℕ
+end = (1 or 2) cut -- or half
+
+abbrev pub last : Same → ℕ
+last s = s .half
+",
+        ),
+    ];
+
+    /// What a definition uses, by the names alone.
+    fn uses(path: &str, name: &str) -> Vec<String> {
+        let repository = Repository::of(&FILES);
+        let definitions = Definitions::of(&repository);
+        let of = Evidence::at(path, name);
+        assert!(definitions.line(&of).is_some(), "{name}");
+        definitions
+            .uses(&of)
+            .into_iter()
+            .map(|of| of.name)
+            .collect()
+    }
+
+    #[test]
+    fn constructors_stand_for_their_types() {
+        assert_eq!(uses(CUT, "long"), ["Answer", "Why"]);
+        assert_eq!(uses(END, "end"), ["Cut", "cut"]);
+    }
+
+    #[test]
+    fn fields_and_comments_and_other_lines_are_no_uses() {
+        assert_eq!(uses(END, "Same"), [""; 0]);
+        assert_eq!(uses(END, "last"), ["Same"]);
+        assert_eq!(uses(CUT, "half"), [""; 0]);
+        assert_eq!(uses(TYPES, "Why"), [""; 0]);
+    }
+
+    #[test]
+    fn what_is_not_public_is_a_definition_too_and_a_type_ends_at_its_brace() {
+        assert_eq!(uses(CUT, "cut"), ["long"]);
+        assert_eq!(uses(CUT, "Cut"), [""; 0]);
+        assert_eq!(uses(TYPES, "Answer"), ["Why"]);
+    }
 }

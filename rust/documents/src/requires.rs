@@ -2,10 +2,12 @@
 use crate::functions::{functions, Function};
 use crate::report::Report;
 use crate::repository::Repository;
+use crate::scope::is_in;
 
 pub fn check(repository: &Repository) -> Report {
     let mut report = Report::default();
-    for (path, text) in repository.files().filter(|(path, _)| is_code(path)) {
+    let code = |(path, _): &(&str, &str)| is_in(path, "src", ".rt");
+    for (path, text) in repository.files().filter(code) {
         for function in functions(text) {
             let place = format!("{path}:{}: {}", function.line, function.name);
             report.thing(&place, faults(&function));
@@ -15,12 +17,6 @@ pub fn check(repository: &Repository) -> Report {
         report.fail("no public function without a `requires` was found in crates".to_string());
     }
     report
-}
-
-/// A file of a crate's `src`.
-fn is_code(path: &str) -> bool {
-    let folders: Vec<&str> = path.split('/').collect();
-    matches!(folders[..], ["crates", _, "src", ..]) && path.ends_with(".rt")
 }
 
 fn faults(function: &Function) -> Vec<String> {

@@ -38,9 +38,10 @@ impl Scope {
         if let Some((module, names)) = used.split_once(".{") {
             let place = place(repository, module)?;
             for name in names.strip_suffix('}')?.split(", ") {
-                let is_name = !name.contains(char::is_whitespace);
-                self.names
-                    .insert(is_name.then(|| name.to_string())?, place.named(name));
+                if name.contains(char::is_whitespace) {
+                    return None;
+                }
+                self.names.insert(name.to_string(), place.named(name));
             }
             return Some(());
         }
@@ -90,10 +91,10 @@ fn place(repository: &Repository, module: &str) -> Option<Place> {
     )))
 }
 
-/// The crate and the folder in it of a path.
-pub fn crate_of(path: &str) -> Option<(&str, &str)> {
-    let (name, inside) = path.strip_prefix("crates/")?.split_once('/')?;
-    Some((name, inside.split('/').next()?))
+/// Whether a file is in that folder of a crate, at any depth, and has that ending.
+pub fn is_in(path: &str, folder: &str, ending: &str) -> bool {
+    let mut parts = path.split('/');
+    parts.next() == Some("crates") && parts.nth(1) == Some(folder) && path.ends_with(ending)
 }
 
 /// The names in a text, of `Type.name` the first; a field's after its value is none.
