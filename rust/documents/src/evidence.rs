@@ -2,7 +2,7 @@
 use crate::repository::Repository;
 use crate::words::words;
 
-#[derive(Clone, Debug, PartialEq)]
+#[derive(Clone, Debug, PartialEq, Eq, PartialOrd, Ord)]
 pub struct Evidence {
     pub path: String,
     pub name: String,
@@ -15,13 +15,17 @@ pub struct Public {
 }
 
 impl Evidence {
+    pub fn at(path: &str, name: &str) -> Self {
+        Evidence {
+            path: path.to_string(),
+            name: name.to_string(),
+        }
+    }
+
     pub fn of(span: &str) -> Option<Self> {
         let (path, name) = span.split_once(':')?;
         let fits = !path.is_empty() && !name.is_empty() && !name.starts_with(':');
-        fits.then(|| Evidence {
-            path: path.to_string(),
-            name: name.to_string(),
-        })
+        fits.then(|| Evidence::at(path, name))
     }
 
     /// What is wrong with it, if anything.

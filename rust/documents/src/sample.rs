@@ -132,9 +132,14 @@ pub(crate) const SLOTS: u8 = 63;
 
 /// The sample with one text of one file replaced; it must be there.
 pub fn with(path: &str, from: &str, to: &str) -> Repository {
-    let text = FILES.iter().find(|(p, _)| *p == path).unwrap().1;
+    replaced(&FILES, path, from, to)
+}
+
+/// The same of any files.
+pub fn replaced(files: &[(&str, &str)], path: &str, from: &str, to: &str) -> Repository {
+    let text = files.iter().find(|(p, _)| *p == path).unwrap().1;
     assert_eq!(text.matches(from).count(), 1, "{from}");
-    also(&[(path, &text.replace(from, to))])
+    Repository::of(&[files, &[(path, &text.replace(from, to))]].concat())
 }
 
 /// The sample with more files, or with other texts of them.

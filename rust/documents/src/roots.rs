@@ -1,0 +1,99 @@
+//! What is asked to be believed: the contracts of the calls and of the boundary's functions, and the claims.
+use crate::definitions::Definitions;
+use crate::evidence::Evidence;
+use crate::functions::{functions, Function};
+use crate::report::Report;
+use crate::repository::Repository;
+use crate::scope::Scope;
+use crate::table::spans_of;
+use std::collections::BTreeMap;
+
+/// The document that lists the calls.
+pub const CALLS: &str = "docs/CALLS.md";
+const BOUNDARY: &str = "crates/joistdenim/src";
+const LAWS: &str = "crates/model/proofs";
+
+/// Each definition that is cited, and by what.
+pub type Roots = BTreeMap<Evidence, String>;
+
+/// The definitions that the contracts of calls and boundary cite. Each function is one thing that is looked at.
+pub fn of_contracts(
+    repository: &Repository,
+    definitions: &Definitions,
+    report: &mut Report,
+) -> Roots {
+    let mut roots = Roots::new();
+    let mut look = |path: &str, function: &Function, report: &mut Report| {
+        let texts = function.clauses.iter().map(|clause| clause.text.as_str());
+        let cited = definitions.cited(path, &texts.collect::<Vec<_>>().join("\n"));
+        let place = format!("{path}:{}: {}", function.line, function.name);
+        let fault = || "its contract cites no definition".to_string();
+        report.thing(&place, cited.is_empty().then(fault).into_iter().collect());
+        roots.extend(cited.into_iter().map(|cited| (cited, place.clone())));
+    };
+    for (path, text) in repository.under(BOUNDARY) {
+        for function in functions(text) {
+            look(path, &function, report);
+        }
+    }
+    for (at, call) in calls(repository.text(CALLS).unwrap_or_default()) {
+        match code_of(repository, &call) {
+            Some((path, function)) => look(path, &function, report),
+            None => report.fail(format!(
+                "{CALLS}:{at}: {call} is no public function of a crate"
+            )),
+        }
+    }
+    roots
+}
+
+/// The calls of the document with their lines: `crate::name` at the head of a table's row.
+fn calls(document: &str) -> Vec<(usize, String)> {
+    let mut found = vec![];
+    for (i, line) in document.lines().enumerate() {
+        let first = line
+            .strip_prefix("| `")
+            .and_then(|_| line.split('|').nth(1));
+        let spans = spans_of(first.unwrap_or("")).into_iter().flatten();
+        let calls = spans.filter(|span| span.contains("::"));
+        found.extend(calls.map(|call| (i + 1, call)));
+    }
+    found
+}
+
+/// The file and the function of a call.
+fn code_of<'a>(repository: &'a Repository, call: &str) -> Option<(&'a str, Function)> {
+    let (name, _) = call.split_once("::")?;
+    let (_, wanted) = call.rsplit_once("::")?;
+    let folder = format!("crates/{name}/src/");
+    let mut files = repository
+        .files()
+        .filter(|(path, _)| path.starts_with(&folder));
+    files.find_map(|(path, text)| {
+        let found = functions(text).into_iter().find(|f| f.name == wanted);
+        found.map(|function| (path, function))
+    })
+}
+
+/// The definitions that a law of the model states as they are: its whole statement is the name of one.
+pub fn claims(repository: &Repository, definitions: &Definitions) -> Roots {
+    let mut claims = Roots::new();
+    for (path, text) in repository.under(LAWS) {
+        let scope = Scope::of(repository, text);
+        let lines: Vec<&str> = text.lines().collect();
+        for (i, line) in lines.iter().enumerate() {
+            let stated = line
+                .strip_prefix("pub ")
+                .and_then(|law| law.split_once(" : "));
+            let goes_on = lines.get(i + 1).is_some_and(|next| next.starts_with(' '));
+            let Some((law, claim)) = stated.filter(|_| !goes_on) else {
+                continue;
+            };
+            if let Some(claim) = scope.get(claim) {
+                let place = format!("{path}:{}: {law}", i + 1);
+                claims.insert(definitions.owner(claim), place);
+            }
+        }
+    }
+    claims
+}
