@@ -10,7 +10,9 @@ use Rattle.model.specs.calls.TableCalls.{pivotCauses, tableCauses, conta
 use Rattle.model.specs.calls.CutCalls.{cutCauses}
 use Rattle.model.specs.calls.InsertionCalls.{insertCauses}
 use Rattle.model.specs.calls.JoinCalls.{joinCauses}
-use Rattle.model.specs.calls.TranslationCalls.{translateKeyCauses}
+use Rattle.model.specs.translation.PairState.{PairState}
+use Rattle.model.specs.calls.PairCalls.{reverseCauses, applyCauses, composeCauses}
+use Rattle.model.specs.calls.TranslationCalls.{translateCauses, translateKeyCauses}
 use Rattle.model.specs.calls.PairRecordCalls.{reversePairCauses, applyPairCauses, composePairsCauses, translatePairCauses}
 use Rattle.model.specs.calls.RenamingCalls.{pivotPairCauses, pivotsCauses, edgesCauses}
 use Rattle.model.specs.calls.ParentChildCalls.{parentChildCauses}
@@ -45,7 +47,12 @@ module _ (a b c d e : List ℕ) where
   unfolding paired pivotCauses tableCauses
   join-in-turn f = refl
 
-  -- pairs
+  -- pairs by value
+  pub states-in-turn : (s t : PairState) → (inTurn 0 (reverseCauses s) ≡ true) × (inTurn 0 (applyCauses s a b) ≡ true) × (inTurn 0 (composeCauses s t) ≡ true) × (inTurn 0 (translateCauses a b c) ≡ true)
+  unfolding pivotCauses tableCauses
+  states-in-turn s t = (refl, refl, refl, refl)
+
+  -- pairs as records
   pub pairs-in-turn : (inTurn 0 (reversePairCauses a b) ≡ true) × (inTurn 0 (applyPairCauses a b c) ≡ true) × (inTurn 0 (composePairsCauses a b c) ≡ true)
       × (inTurn 0 (translatePairCauses a b c d) ≡ true)
   unfolding pivotCauses tableCauses
