@@ -1,6 +1,9 @@
 //! Checks the documents, from the root of the repository: `documents contracts` the table of the source's contracts,
 //! `documents names` the names in code style. A line for each failure, then 'N passed, M failed'; the status is 1
 //! where something failed.
+mod clauses;
+#[cfg(test)]
+mod clauses_tests;
 mod contracts;
 #[cfg(test)]
 mod contracts_tests;
