@@ -44,7 +44,7 @@ pub fn check(document: &str, clauses: &[Clause], theorems: &[Theorem], report: &
         let (at, name) = (clause.row.at, clause.name);
         if !clause.is_stated(theorems) {
             report.fail(format!(
-                "{document}:{at}: no theorem of it mentions `{name}`, nor a definition that the remark names: `{name}` by .."
+                "{document}:{at}: no theorem of it mentions `{name}`, nor what a remark \"`{name}` by `..`\" names"
             ));
         }
         let others = &clauses[..i];

@@ -53,7 +53,7 @@ fn what_is_required_otherwise() {
     }
 }
 
-const UNSTATED: &str = "docs/CONTRACTS.md:19: no theorem of it mentions `WFPivots`, nor a definition that the remark names: `WFPivots` by ..";
+const UNSTATED: &str = "docs/CONTRACTS.md:19: no theorem of it mentions `WFPivots`, nor what a remark \"`WFPivots` by `..`\" names";
 
 #[test]
 fn theorem_of_another_predicate() {
