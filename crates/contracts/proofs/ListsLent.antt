@@ -61,7 +61,7 @@ module _ (wrong outside : Bool) (p l : List ℕ) (h : first (entriesCauses wrong
         index = rw (slots-places (elements p) (entries l) sorted some-pivot i) e;
       }
 
-  -- and are a bucket whose entries rise, with a place for each slot and the total
+  -- the bucket's entries rise, and the index that belongs to it has a place for each slot and the total, rising from 0 on
   pub list-sound : (x : List ℕ) → x ≡ indexBytes p l → InvLseq l x (length (slotBuckets (elements p) (entries l)))
   list-sound x e =
       let i = entries-inside wrong outside p l h in

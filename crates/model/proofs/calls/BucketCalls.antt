@@ -151,7 +151,7 @@ module _ (l : List ℕ) (p q : Key) (d : List ℕ) (m : ℕ) (h : translateBucke
   pub bucket-answers : m ≡ length (newBucket l p q)
   bucket-answers = value-is (translateBucketCauses l p q d) (length (newBucket l p q)) (translateBucketAnswer l p q d) refl m h
 
-  -- and writes their bytes
+  -- the bytes of the entries kept are written
   pub renamed-written : take (m * entrySize) (translateBucketLeaves l p q d) ≡ encodeBucket (newBucket l p q)
   renamed-written =
       let e : translateBucketLeaves l p q d ≡ over (encodeBucket (newBucket l p q)) d = sym (passed (λ (_ : Refusal). d) _ _ (translateBucketCauses l p q d) no-cause refl) in

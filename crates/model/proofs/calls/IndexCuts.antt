@@ -168,7 +168,7 @@ module _ (left : Bool) (p l x : List ℕ) (k : Key) (db dx : List ℕ) (m : ℕ)
       ≡ take (length (cutPivots left p k) * placeSize) (cutIndexLeavesIndex left p l x k db dx)
   cut-is-built d r = checked-is-built _ _ _ m cut-checks d r
 
-  -- it begins with 0, rises, weakly, and its last place is what the cut answers
+  -- the index written begins with 0 and rises, weakly, and its last place is what the cut answers
   pub cut-indexes : Indexes (encodeAll (cutPivots left p k)) (take (m * entrySize) (cutIndexLeavesBucket left p l x k db dx)) m
       (take (length (cutPivots left p k) * placeSize) (cutIndexLeavesIndex left p l x k db dx))
   cut-indexes = check-indexes _ _ _ m cut-checks

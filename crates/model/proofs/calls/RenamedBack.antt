@@ -100,7 +100,7 @@ module _ (l : List ℕ) (p q : Key) (d : List ℕ) (m : ℕ) (h : translateBucke
       let n : length (encodeBucket (newBucket renamed q p)) ≡ m * entrySize = rw (kept-again, length-encodeBucket (kept (entries l) p) kept-sized, kept-count) in
       by-room renamed q p back-checked back-short d′ ∙ rw (n, kept-again, kept-count)
 
-  -- and what is written then are the kept entries of the first bucket, byte for byte
+  -- what is written then are the kept entries of the first bucket, byte for byte
   pub back-leaves : Bytes l → (d′ : List ℕ) → m * entrySize ≤ length d′ → take (m * entrySize) (translateBucketLeaves renamed q p d′) ≡ joined (keptBytes p (entryBytes l))
   back-leaves b d′ r =
       let a : translateBucketAnswer renamed q p d′ ≡ answers.Value m = back-answers d′ ∙ rw (le-ltb (length d′) (m * entrySize) r) in
