@@ -9,31 +9,34 @@ use native.Mathlib.Omega.{arith}
 use borrow.Author.Tests.{not-false, ltb-false, lt-ltb, le-ltb}
 use lib.ListN.{length, take, drop, getD}
 use lib.Seq.{take-append-seam, drop-append-seam, take-at, drop-at}
-use Rattle.model.specs.declared.Refusal.the-variants.{Shape, Malformed, OutOfRange, TooLong, NoRoom, WrongIndex}
+use Rattle.model.specs.declared.Refusal.the-variants.{Shape, Malformed, OutOfRange, TooLong, NoRoom, EntriesUnsorted, WrongIndex}
 use Rattle.model.specs.declared.Answer.the-variants as answers
 use Rattle.model.specs.declared.Decided.the-variants as decided
 use Rattle.model.specs.keys.Key.{Key, tooLong}
-use Rattle.model.specs.records.Record.{records, elements}
-use Rattle.model.specs.tables.Tables.{maxPivots, all, IsStrictlySorted}
-use Rattle.model.specs.buckets.Bucket.{Bucket, entrySize, entryBytes, entries, TranslateBucket, TranslateBuckets}
-use Rattle.model.specs.buckets.Index.{slotBuckets, together, placesFrom, placeSize, places}
+use Rattle.model.specs.keys.Order.{key, lteKey, lte}
+use Rattle.model.specs.records.Record.{lengthField, allZero, fieldReading, reading, keyBytes, element, recordOf, encode, pieces, joined, records, elements, encodeAll}
+use Rattle.model.specs.tables.Tables.{maxPivots, NumBuckets, all, risesFrom, IsStrictlySorted}
+use Rattle.model.specs.buckets.Bucket.{Bucket, entrySize, entryBytes, entries, entryOf, encodeEntry, encodeBucket, entriesRise, TranslateBucket, TranslateBuckets}
+use Rattle.model.specs.buckets.Index.{only, entriesBelow, Index, slotEntries, slotsFrom, slotBuckets, together, placesFrom, placeSize, encodePlace, encodeIndex, places}
 use Rattle.model.specs.calls.Refusals.{Cause, _⇒_, outcome, paired, first, answer}
 use Rattle.model.specs.calls.KeyCalls.{noRoom}
 use Rattle.model.specs.calls.TableCalls.{notPivotCount, pivotsRead, pivotCauses}
 use Rattle.model.specs.calls.BucketCalls.{notEntryCount, entriesRead, bucketCauses, newBucket, neededBytes, bucketLong, bucketFull, shortEntry, renameCauses, translateBucketCauses, translateBucketAnswer, willFitAnswer}
 use Rattle.model.specs.calls.IndexCalls.{entriesCauses, indexBytes, wrongIndex, givenCauses}
 use Rattle.model.specs.calls.IndexCalls.{translateIndexCauses, translateIndexAnswer}
+use Rattle.model.proofs.IndexRows.{entryA, entryB}
 use Rattle.model.proofs.Lists.{all-append}
 use Rattle.model.proofs.keys.Key.{both}
 use Rattle.model.proofs.keys.Order.{refuted}
 use Rattle.model.proofs.tables.Routing.{wf-sorted, wf-count}
-use Rattle.model.proofs.buckets.IndexBytes.{places-encodeIndex}
+use Rattle.model.proofs.buckets.IndexBytes.{places-encodeIndex, index-count}
+use Rattle.model.proofs.buckets.Index.{index-first, index-last, index-rises}
 use Rattle.model.proofs.buckets.SlotBuckets.{slots-count, slots-together, slots-places, renamed-together}
 use Rattle.model.proofs.calls.Refusals.{accepted, none-here, none-later, none-before, none-after, not-fails, or-left, or-right}
 use Rattle.model.proofs.calls.BucketCalls.{yes-accepted}
-use Rattle.model.proofs.calls.IndexCauses.{entries-wf, entries-inside, given-entries, given-index, same-bytes}
+use Rattle.model.proofs.calls.IndexCauses.{entries-wf, entries-bucket, entries-rise, entries-inside, given-entries, given-index, same-bytes}
 use Rattle.contracts.specs.Refuses.{RefusesAt, Refuses}
-use Rattle.contracts.specs.BucketLists.{TranslateBucketsWillFit, Inv, ILseq}
+use Rattle.contracts.specs.BucketLists.{TranslateBucketsWillFit, Inv, ILseq, InvLseq}
 use Rattle.contracts.proofs.Refusing.{refuses-at, refuses-unless, clause-refused, more-refused, call-refuses, too-many}
 use Rattle.contracts.proofs.Lent.{go-on}
 
@@ -56,6 +59,21 @@ module _ (wrong outside : Bool) (p l : List ℕ) (h : first (entriesCauses wrong
       record {
         bucket = sym (slots-together (elements p) (entries l) sorted some-pivot i);
         index = rw (slots-places (elements p) (entries l) sorted some-pivot i) e;
+      }
+
+  -- the bucket's entries rise, and the index that belongs to it has a place for each slot and the total, rising from 0 on
+  pub list-sound : (x : List ℕ) → x ≡ indexBytes p l → InvLseq l x (length (slotBuckets (elements p) (entries l)))
+  list-sound x e =
+      let i = entries-inside wrong outside p l h in
+      let n : length (slotBuckets (elements p) (entries l)) ≡ NumBuckets (elements p) = slots-count (elements p) (entries l) in
+      let r : places x ≡ Index (elements p) (entries l) = rw e (places-encodeIndex (Index (elements p) (entries l))) in
+      record {
+        bucket = entries-bucket wrong outside p l h;
+        rises = entries-rise wrong outside p l h;
+        count = rw (r, n) (index-count (elements p) (entries l) ∙ omega (arith, some-pivot));
+        begins = rw r (index-first (elements p) (entries l) i some-pivot);
+        ends = rw (r, n) (index-last (elements p) (entries l) i some-pivot);
+        climbs = rw (r, n) (λ a c u v. index-rises (elements p) (entries l) sorted a c u (omega (arith, some-pivot)));
       }
 
 -- ---- the list that bytes hold
@@ -107,6 +125,14 @@ inv-is l = by-flags (notEntryCount l) (entriesRead (entryBytes l))
 -- ---- refusals of a call with a given index
 
 module _ (wrong outside : Bool) (p l x : List ℕ) (ds : List Cause) (v : ℕ) where
+  -- the bucket isn't one whose entries rise, or the index has no place for each slot and the total, rising from 0 on
+  pub list-unsound : (InvLseq l x (length (slotBuckets (elements p) (entries l))) → ⊥)
+      → RefusesAt answers.Refused (givenCauses wrong outside p l x ++ ds) 7 WrongIndex (answer (givenCauses wrong outside p l x ++ ds) v)
+  unfolding givenCauses entriesCauses paired pivotCauses bucketCauses
+  list-unsound f =
+      refuses-unless answers.Refused _ (givenCauses wrong outside p l x ++ ds) 7 (wrongIndex p l x) WrongIndex ds refl
+      (λ h. not-fails _ (refuted _ (λ t. f (list-sound wrong outside p l h x (same-bytes x (indexBytes p l) t)))))
+
   -- bucket and index don't hold the slots' buckets
   pub list-refused : (ILseq l x (slotBuckets (elements p) (entries l)) → ⊥)
       → RefusesAt answers.Refused (givenCauses wrong outside p l x ++ ds) 7 WrongIndex (answer (givenCauses wrong outside p l x ++ ds) v)
@@ -139,6 +165,21 @@ module _ (wrong outside : Bool) (p l x : List ℕ) (ds : List Cause) (v : ℕ) w
   pub outside-refused : outside ≡ true → RefusesAt answers.Refused (givenCauses wrong outside p l x ++ ds) 6 OutOfRange (answer (givenCauses wrong outside p l x ++ ds) v)
   unfolding givenCauses entriesCauses paired pivotCauses bucketCauses
   outside-refused h = refuses-at answers.Refused _ (givenCauses wrong outside p l x ++ ds) 6 _ OutOfRange _ refl (or-left outside _ h)
+
+-- the two are not the same: between the pivots 61 and 63 the entries 62 and 61, with the index 0, 2, hold the slot's bucket and don't rise, so a call refuses them with 14
+abbrev pivotsAc : List ℕ
+pivotsAc = encodeAll (key (0x61 ∷ []) ∷ key (0x63 ∷ []) ∷ [])
+
+abbrev bucketBa : List ℕ
+bucketBa = encodeBucket (entryB ∷ entryA ∷ [])
+
+abbrev indexBa : List ℕ
+indexBa = 0 ∷ 0 ∷ 0 ∷ 2 ∷ []
+
+pub held-unsound : ILseq bucketBa indexBa (slotBuckets (elements pivotsAc) (entries bucketBa)) × (InvLseq bucketBa indexBa 1 → ⊥)
+    × (translateIndexAnswer pivotsAc bucketBa indexBa [] [] [] [] ≡ answers.Refused EntriesUnsorted)
+unfolding outcome paired pivotCauses notPivotCount pivotsRead records pieces elements encodeAll encode recordOf joined reading fieldReading lengthField allZero element keyBytes IsStrictlySorted risesFrom lte lteKey all bucketCauses notEntryCount entriesRead entryBytes entries entryOf encodeBucket encodeEntry entriesRise entriesCauses givenCauses only entriesBelow Index encodePlace encodeIndex slotEntries slotsFrom slotBuckets together placesFrom
+held-unsound = (record { bucket = refl; index = refl }, λ s. true≢false (sym (s .rises)), refl)
 
 -- ---- lists and their translation
 

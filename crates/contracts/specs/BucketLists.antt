@@ -1,9 +1,10 @@
--- Lists of buckets: what stands in place of lseq<MutBucket>, a bucket with its index (W5).
+-- Whether a bucket will fit, and lists of buckets: what stands in place of lseq<MutBucket>, a bucket with its index (W5).
 use mathlib.Core.Path.{_≡_}
 use mathlib.Core.Bool.{Bool, true, false, not, _&&_}
 use mathlib.Core.List.{List, [], _∷_, _++_}
 use mathlib.Core.Option.{none}
 use Prim.Native.Nat.{ℕ, _+_, _*_, _≤_, _<_}
+use lib.Dec.{leb}
 use lib.ListN.{length, take, drop, getD}
 use Rattle.model.specs.declared.Answer.the-variants as answers
 use Rattle.model.specs.keys.Key.{Key}
@@ -18,9 +19,17 @@ use Rattle.model.specs.calls.CutCalls.{cutPivots}
 use Rattle.model.specs.calls.IndexCalls.{cutIndexAnswer, cutIndexLeavesBucket, cutIndexLeavesIndex}
 use Rattle.model.specs.calls.IndexCalls.{translateIndexAnswer, translateIndexLeavesBucket, translateIndexLeavesIndex}
 
--- TranslateBucketsWillFit: of no bucket a kept key passes 64 bytes
+-- TranslateBucketWillFit: no kept key passes 64 bytes
+abbrev pub TranslateBucketWillFit : Bucket → Key → Key → Bool
+TranslateBucketWillFit b p q = all shortEntry (TranslateBucket b p q)
+
+-- WillFitInPkv, of a destination of n bytes: besides, it holds the entries kept
+abbrev pub WillFitInPkv : Bucket → Key → Key → ℕ → Bool
+WillFitInPkv b p q n = TranslateBucketWillFit b p q && leb (length (TranslateBucket b p q) * entrySize) n
+
+-- TranslateBucketsWillFit
 abbrev pub TranslateBucketsWillFit : List Bucket → Key → Key → Type 0
-TranslateBucketsWillFit blist p q = (i : ℕ) → i < length blist → all shortEntry (TranslateBucket (getD blist i []) p q) ≡ true
+TranslateBucketsWillFit blist p q = (i : ℕ) → i < length blist → TranslateBucketWillFit (getD blist i []) p q ≡ true
 
 -- MutBucket.Inv: whole entries, at most 512, each with the record of a key
 abbrev pub Inv : List ℕ → Bool

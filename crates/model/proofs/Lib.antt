@@ -9,4 +9,5 @@ pub mod translation
 pub mod buckets
 pub mod list
 pub mod Rows
+pub mod CallRows
 pub mod IndexRows

@@ -31,14 +31,14 @@ use Rattle.model.specs.buckets.Bucket.{Entry, entryBytes, entries, entry
 use Rattle.model.specs.calls.BucketCalls.{notEntryCount, entriesRead, bucketCauses, neededBytes, translateBucketAnswer, willFitAnswer}
 use Rattle.model.specs.list.ShelfList.{header, dash, digit, decimal, hex, keyText, elementText, edgeText, slotLine, slotLines, tableText}
 use Rattle.model.specs.list.ShelfList.{listPivots, listEdges, notListSize, listCauses, shelfList}
-use Rattle.model.specs.Rows.{AllHold, rows, pivotsT, edgesT, inputT, linesT}
+use Rattle.model.specs.Rows.{AllHold, rows, pivotsT, edgesT, inputT, headerLine, linesT}
 
 pub cases : AllHold rows
 unfolding changePrefix IsPrefix lteKey lte lastPlace LargestLte LargestLt lcpright lcp PivotLcp raisedAt uncommonFrom ShortestUncommonPrefix Route CutoffForLeft CutoffForRight SplitLeft SplitRight cutEdge edgeWithin SplitLeftEdges SplitRightEdges RevPrefixSet ApplyPrefixSet ComposePrefixSet TranslateElement translateRight TranslatePivotPairInternal
 cases =
     (refl, (refl, (refl, (refl, (refl, (refl, (refl, (refl, (refl, (refl, (refl, (refl, (refl, ((refl, refl), ((refl, refl), (refl, tt))))))))))))))))
 
-pub list-of-T : shelfList inputT ≡ header ++ linesT
+pub list-of-T : shelfList inputT ≡ headerLine ++ linesT
 unfolding lteKey lte lcpright lcp PivotLcp lengthField allZero fieldReading reading keyBytes element edgeOf recordOf encode encodeEdge pieces joined records elements edges encodeAll encodeEdges all risesFrom IsStrictlySorted edgesFit WFEdges outcome pivotCauses tableCauses notPivotCount notEdgeCount pivotsRead edgesRead header dash digit decimal hex keyText elementText edgeText slotLine slotLines tableText listPivots listEdges notListSize listCauses shelfList
 list-of-T = refl
 

@@ -13,6 +13,7 @@ pub mod RenamingCalls
 pub mod ParentChildCalls
 pub mod BucketCalls
 pub mod BucketRoom
+pub mod RenamedBack
 pub mod Alike
 pub mod SlotCalls
 pub mod PivotKeys

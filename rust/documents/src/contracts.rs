@@ -1,5 +1,6 @@
 //! The table of the source's contracts, docs/CONTRACTS.md: every declaration and clause has its row, every row its
 //! evidence, and every theorem a row.
+use crate::clauses::{self, Clause};
 use crate::refusals;
 use crate::report::Report;
 use crate::repository::Repository;
@@ -39,6 +40,8 @@ pub fn check(repository: &Repository) -> Report {
     let theorems = theorems(repository);
     check_theorems(&files, &theorems, &mut report);
     check_refusals(&files, &theorems, repository, &mut report);
+    let clauses: Vec<Clause> = files.iter().flat_map(File::clauses).collect();
+    clauses::check(DOCUMENT, &clauses, &theorems, &mut report);
     check_counts(document, &files, &mut report);
     report
 }
@@ -75,6 +78,22 @@ impl File {
 
     fn row(&self, line: usize) -> Option<&Contract> {
         self.rows.iter().find(|row| row.line == line)
+    }
+
+    /// The rows of clauses that require something by its name.
+    fn clauses(&self) -> impl Iterator<Item = Clause<'_>> {
+        self.items.iter().filter_map(|item| {
+            let name = clauses::required(&item.text)?;
+            let row = self.row(item.line)?;
+            let above = self.items.iter().take_while(|i| i.line < item.line);
+            let declared = above.filter(|i| i.kind == Kind::Declaration).last()?;
+            let of_method = declared.text.starts_with("method ");
+            Some(Clause {
+                row,
+                name,
+                of_method,
+            })
+        })
     }
 
     fn faults(&self, row: &Contract, repository: &Repository) -> Vec<String> {

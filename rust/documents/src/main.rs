@@ -1,17 +1,15 @@
 //! Checks the documents, from the root of the repository: `documents contracts` the table of the source's contracts,
-<<<<<<< HEAD
-//! `documents names` the names in code style, and the links. A line for each failure, then 'N passed, M failed'; the status is 1
-//! where something failed.
-=======
-//! `documents names` the names in code style, `documents believed` the list of what must be believed; and what they say
-//! of the code, `documents requires`: no public function has one. A line for each failure, then 'N passed, M failed';
-//! the status is 1 where something failed.
+//! `documents names` the names in code style and the links, `documents believed` the list of what must be believed; and
+//! what they say of the code, `documents requires`: no public function has one. A line for each failure, then
+//! 'N passed, M failed'; the status is 1 where something failed.
 mod believed;
 #[cfg(test)]
 mod believed_sample;
 #[cfg(test)]
 mod believed_tests;
->>>>>>> believed
+mod clauses;
+#[cfg(test)]
+mod clauses_tests;
 mod contracts;
 #[cfg(test)]
 mod contracts_tests;
@@ -60,13 +58,9 @@ fn main() -> ExitCode {
     };
     let report = match asked.as_str() {
         "contracts" => contracts::check(&repository),
-<<<<<<< HEAD
         "names" => names::check(&repository, EXCEPTIONS).and(links::check(&repository)),
-=======
-        "names" => names::check(&repository, EXCEPTIONS),
         "believed" => believed::check(&repository),
         "requires" => requires::check(&repository),
->>>>>>> believed
         _ => {
             eprintln!("documents contracts | names | believed | requires");
             return ExitCode::from(2);

@@ -76,6 +76,13 @@ impl Contract {
         words(&self.remark).filter(|word| is_mark(word))
     }
 
+    /// The definition by which the theorem renders a name, where the remark has "`name` by `definition`".
+    pub fn rendered_by(&self, name: &str) -> Option<&str> {
+        let said = format!("`{name}` by `");
+        let (_, rest) = self.remark.split_once(&said)?;
+        rest.split_once('`').map(|(definition, _)| definition)
+    }
+
     /// What is wrong with it as the row of this item.
     pub fn faults(&self, item: &Item, repository: &Repository) -> Vec<String> {
         let mut faults = self.unread.clone();

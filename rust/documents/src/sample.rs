@@ -85,7 +85,7 @@ pub bounded-pivots-2 : A
 bounded-pivots-2 = refl
 
 -- requires WFPivots(pt)
-pub bounded-pivots-8 : A
+pub bounded-pivots-8 : WFPivots A
     → Refuses refused 3 B
 bounded-pivots-8 = refl
 

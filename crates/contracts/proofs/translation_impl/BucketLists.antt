@@ -29,11 +29,11 @@ use Rattle.model.proofs.buckets.SlotBuckets.{slots-count, renamed-together}
 use Rattle.model.proofs.buckets.CutSlots.{slots-alone}
 use Rattle.model.proofs.calls.Refusals.{not-fails, or-left, or-right}
 use Rattle.contracts.specs.Refuses.{RefusesAt, Refuses}
-use Rattle.contracts.specs.BucketLists.{TranslateBucketsWillFit, Inv, ILseq, InvLseq, TranslatesIndex}
+use Rattle.contracts.specs.BucketLists.{TranslateBucketWillFit, TranslateBucketsWillFit, Inv, ILseq, InvLseq, TranslatesIndex}
 use Rattle.contracts.proofs.Refusing.{refuses-at}
 use Rattle.contracts.proofs.translation_impl.Buckets.{neither}
 use Rattle.contracts.proofs.Lent.{accepted}
-use Rattle.contracts.proofs.ListsLent.{list-refused, bucket-refused, fits-together, together-fits, long-refused, full-refused, list-accepted, yes-fits}
+use Rattle.contracts.proofs.ListsLent.{list-unsound, bucket-refused, fits-together, together-fits, long-refused, full-refused, list-accepted, yes-fits}
 use Rattle.contracts.proofs.ListsLeft.{list-translated, list-alone, list-passes}
 
 module _ (blist : List Bucket) (p q : Key) where
@@ -55,9 +55,9 @@ module _ (blist : List Bucket) (p q : Key) where
 -- lent any bytes
 module _ (p l x : List ℕ) (old new : Key) (db dx : List ℕ) where
   -- requires MutBucket.InvLseq(mbuckets)
-  -- bucket and index don't hold the slots' buckets
-  pub translation-impl-345 : (ILseq l x (slotBuckets (elements p) (entries l)) → ⊥) → RefusesAt answers.Refused (translateIndexCauses p l x old new db dx) 7 WrongIndex (translateIndexAnswer p l x old new db dx)
-  translation-impl-345 = list-refused (tooLong old || tooLong new) false p l x _ _
+  -- the bucket isn't one whose entries rise (1, 2 or 14 then), or the index has no place for each bucket and the total, rising from 0 on
+  pub translation-impl-345 : (InvLseq l x (length (slotBuckets (elements p) (entries l))) → ⊥) → RefusesAt answers.Refused (translateIndexCauses p l x old new db dx) 7 WrongIndex (translateIndexAnswer p l x old new db dx)
+  translation-impl-345 = list-unsound (tooLong old || tooLong new) false p l x _ _
 
   -- ensures b ==> (forall i | 0 <= i < |mbuckets| :: WillFitInPkv(lseqs(mbuckets)[i], prefix, newPrefix))
   -- where it says yes of the bucket, and no cause before 8 applies, the list is translated, if there is room for the places
@@ -69,13 +69,13 @@ module _ (p l x : List ℕ) (old new : Key) (db dx : List ℕ) where
       (f .0, list-accepted p l x old new db dx _ refl g (f .0) (f .1) r)
 
   -- requires MutBucket.InvLseq(blist)
-  -- bucket and index don't hold the slots' buckets
-  pub translation-impl-431 : (ILseq l x (slotBuckets (elements p) (entries l)) → ⊥) → RefusesAt answers.Refused (translateIndexCauses p l x old new db dx) 7 WrongIndex (translateIndexAnswer p l x old new db dx)
+  -- the bucket isn't one whose entries rise (1, 2 or 14 then), or the index has no place for each bucket and the total, rising from 0 on
+  pub translation-impl-431 : (InvLseq l x (length (slotBuckets (elements p) (entries l))) → ⊥) → RefusesAt answers.Refused (translateIndexCauses p l x old new db dx) 7 WrongIndex (translateIndexAnswer p l x old new db dx)
   translation-impl-431 = translation-impl-345
 
   -- requires forall i | 0 <= i < |blist| :: WillFitInPkv(blist[i], prefix, newPrefix)
   -- a kept key of one bucket would pass 64 bytes
-  pub translation-impl-432 : (i : ℕ) → i < length (slotBuckets (elements p) (entries l)) → all shortEntry (TranslateBucket (getD (slotBuckets (elements p) (entries l)) i []) old new) ≡ false
+  pub translation-impl-432 : (i : ℕ) → i < length (slotBuckets (elements p) (entries l)) → TranslateBucketWillFit (getD (slotBuckets (elements p) (entries l)) i []) old new ≡ false
       → RefusesAt answers.Refused (translateIndexCauses p l x old new db dx) 8 TooLong (translateIndexAnswer p l x old new db dx)
   translation-impl-432 = long-refused p l x old new db dx _ refl
 
@@ -92,7 +92,7 @@ module _ (p l x : List ℕ) (old new : Key) (db dx : List ℕ) where
 
   -- requires WillFitInPkv(bucket, prefix, newPrefix)
   -- a kept key would pass 64 bytes
-  pub translation-impl-461 : all shortEntry (TranslateBucket (entries l) old new) ≡ false → RefusesAt answers.Refused (translateIndexCauses p l x old new db dx) 8 TooLong (translateIndexAnswer p l x old new db dx)
+  pub translation-impl-461 : TranslateBucketWillFit (entries l) old new ≡ false → RefusesAt answers.Refused (translateIndexCauses p l x old new db dx) 8 TooLong (translateIndexAnswer p l x old new db dx)
   unfolding givenCauses entriesCauses paired pivotCauses bucketCauses
   translation-impl-461 h = refuses-at _ _ (translateIndexCauses p l x old new db dx) 8 _ _ _ refl (not-fails _ h)
 

@@ -12,26 +12,32 @@ use lib.ListN.{length, take, getD}
 use Rattle.model.specs.declared.Refusal.the-variants.{TooLong, NoRoom}
 use Rattle.model.specs.declared.Answer.the-variants as answers
 use Rattle.model.specs.declared.Decided.the-variants as decided
-use Rattle.model.specs.keys.Key.{Key, maxLen, IsPrefix}
+use Rattle.model.specs.keys.Key.{Key, maxLen, tooLong, IsPrefix}
 use Rattle.model.specs.tables.Tables.{all}
 use Rattle.model.specs.buckets.Bucket.{Entry, Bucket, entrySize, maxEntries, entries, encodeBucket, translateEntry, TranslateBucket, sizedEntry}
 use Rattle.model.specs.calls.Refusals.{outcome, first, over, yesOrNo}
 use Rattle.model.specs.calls.BucketCalls.{bucketCauses, shortEntry, neededBytes, renameCauses, translateBucketCauses, translateBucketAnswer, translateBucketLeaves, willFitAnswer}
 use Rattle.model.proofs.Lists.{le-or-lt}
 use Rattle.model.proofs.calls.TableCalls.{not-too-long}
-use Rattle.model.proofs.calls.BucketCalls.{renamed-passes, written-bucket, no-refused, eight-no, ten-no, yes-accepted}
+use Rattle.model.proofs.calls.BucketCalls.{bucket-wrong, renamed-passes, written-bucket, no-refused, eight-no, ten-no, yes-accepted}
 use Rattle.model.proofs.buckets.Entries.{entries-encodeBucket}
 use Rattle.model.proofs.buckets.Renamed.{simple-most, simple-next}
 use Rattle.model.proofs.calls.Refusals.{not-fails}
-use Rattle.contracts.specs.Refuses.{RefusesAt}
+use Rattle.contracts.specs.Refuses.{RefusesAt, Refuses}
+use Rattle.contracts.specs.BucketLists.{TranslateBucketWillFit, WillFitInPkv, Inv}
 use Rattle.contracts.specs.Translation.{TranslateBucketSimple}
-use Rattle.contracts.proofs.Refusing.{refuses-at}
+use Rattle.contracts.proofs.Refusing.{refuses-at, Refused, clause-refused, more-refused, call-refuses}
 use Rattle.contracts.proofs.Lent.{accepted, go-on}
+use Rattle.contracts.proofs.ListsLent.{inv-is}
 
 -- an entry added at the end where a test holds
 add-where : (t : Bool) (a : Bucket) (x : Entry) → a ++ cond t (x ∷ []) [] ≡ cond t (a ++ (x ∷ [])) a
 add-where true a x = refl
 add-where false a x = append-nil a
+
+-- where no cause of a bucket applies, and no other argument has cause 2, none of the bucket alone does
+right-bucket : (wrong : Bool) (l : List ℕ) → first (bucketCauses wrong l) ≡ none → first (bucketCauses false l) ≡ none
+right-bucket wrong l h = rw (bucket-wrong wrong l h) at h
 
 module _ (b : Bucket) (p q : Key) where
   -- function {:opaque} TranslateBucketSimple(bucket: Bucket, prefix: Key, newPrefix: Key, i: nat) : (result: Bucket)
@@ -52,6 +58,24 @@ module _ (b : Bucket) (p q : Key) where
 
 -- lent any bytes
 module _ (l : List ℕ) (p q : Key) (d : List ℕ) where
+  -- where neither cause 1 nor cause 2 applies, the bucket is one
+  inv-lent : first (renameCauses l p q) ≡ none → Inv l ≡ true
+  inv-lent n = inv-is l .1 (right-bucket (tooLong p || tooLong q) l n)
+
+  renaming-refused : Inv l ≡ false → Refused 2 (renameCauses l p q)
+  unfolding bucketCauses
+  renaming-refused = clause-refused 2 (renameCauses l p q) (Inv l) refl inv-lent
+
+  -- requires mbucket.Inv()
+  -- the bucket isn't whole entries, has more than 512, or a record that is no key's
+  pub translation-impl-329 : (n : ℕ) → Inv l ≡ false → Refuses decided.Refused 2 (willFitAnswer l p q n)
+  translation-impl-329 n h = call-refuses decided.Refused _ 2 (renameCauses l p q) (renaming-refused h)
+
+  -- requires mbucket.Inv()
+  -- the bucket isn't whole entries, has more than 512, or a record that is no key's
+  pub translation-impl-390 : Inv l ≡ false → Refuses answers.Refused 2 (translateBucketAnswer l p q d)
+  translation-impl-390 h = call-refuses answers.Refused _ 2 (translateBucketCauses l p q d) (more-refused 2 (renameCauses l p q) _ (renaming-refused h))
+
   -- ensures b == TranslateBucketWillFit(mbucket.I(), prefix, newPrefix)
   -- it says no exactly where the renaming, into so long a destination, is refused with 8 or 10
   pub translation-impl-330 : (willFitAnswer l p q (length d) ≡ decided.No
@@ -66,7 +90,7 @@ module _ (l : List ℕ) (p q : Key) (d : List ℕ) where
 
   -- requires WillFitInPkv(mbucket, prefix, newPrefix);
   -- a kept key would pass 64 bytes
-  pub translation-impl-391 : all shortEntry (TranslateBucket (entries l) p q) ≡ false → RefusesAt answers.Refused (translateBucketCauses l p q d) 2 TooLong (translateBucketAnswer l p q d)
+  pub translation-impl-391 : TranslateBucketWillFit (entries l) p q ≡ false → RefusesAt answers.Refused (translateBucketCauses l p q d) 2 TooLong (translateBucketAnswer l p q d)
   unfolding bucketCauses
   translation-impl-391 h = refuses-at _ _ (translateBucketCauses l p q d) 2 _ _ _ refl (not-fails _ h)
 
@@ -78,8 +102,8 @@ module _ (l : List ℕ) (p q : Key) (d : List ℕ) where
 
   -- ensures mbucket'.Inv()
   -- what an accepted call leaves passes the check of a bucket
-  pub translation-impl-392 : (n : ℕ) → translateBucketAnswer l p q d ≡ answers.Value n → first (bucketCauses false (take (n * entrySize) (translateBucketLeaves l p q d))) ≡ none
-  translation-impl-392 n h = renamed-passes l p q d n h
+  pub translation-impl-392 : (n : ℕ) → translateBucketAnswer l p q d ≡ answers.Value n → Inv (take (n * entrySize) (translateBucketLeaves l p q d)) ≡ true
+  translation-impl-392 n h = inv-is (take (n * entrySize) (translateBucketLeaves l p q d)) .1 (renamed-passes l p q d n h)
 
 -- neither 8 nor 10
 pub neither : (a : Bool) (m n : ℕ) → not (not a || ltb n m) ≡ (a && leb m n)
@@ -93,12 +117,12 @@ module _ (b : Bucket) (z : all sizedEntry b ≡ true) (m : length b ≤ maxEntri
 
   -- ensures b == TranslateBucketWillFit(mbucket.I(), prefix, newPrefix)
   -- no kept key passes 64 bytes, and n bytes hold the entries kept
-  pub translation-impl-330b : (n : ℕ) → willFitAnswer (encodeBucket b) p q n ≡ yesOrNo (all shortEntry (TranslateBucket b p q) && leb (length (TranslateBucket b p q) * entrySize) n)
+  pub translation-impl-330b : (n : ℕ) → willFitAnswer (encodeBucket b) p q n ≡ yesOrNo (WillFitInPkv b p q n)
   unfolding neededBytes
   translation-impl-330b n = accepted _ _ (renameCauses (encodeBucket b) p q) rename-lent ∙ rw (entries-encodeBucket b z, neither (all shortEntry (TranslateBucket b p q)) (length (TranslateBucket b p q) * entrySize) n)
 
   -- ensures mbucket'.I() == TranslateBucket(mbucket.I(), prefix, newPrefix)
-  pub translation-impl-393 : (d : List ℕ) → all shortEntry (TranslateBucket b p q) ≡ true → length (TranslateBucket b p q) * entrySize ≤ length d
+  pub translation-impl-393 : (d : List ℕ) → TranslateBucketWillFit b p q ≡ true → length (TranslateBucket b p q) * entrySize ≤ length d
       → (translateBucketAnswer (encodeBucket b) p q d ≡ answers.Value (length (TranslateBucket b p q)))
       × (translateBucketLeaves (encodeBucket b) p q d ≡ over (encodeBucket (TranslateBucket b p q)) d)
   unfolding outcome neededBytes

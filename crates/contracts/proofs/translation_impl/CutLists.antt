@@ -12,11 +12,10 @@ use Rattle.model.specs.declared.Answer.the-variants as answers
 use Rattle.model.specs.keys.Key.{Key, maxLen, tooLong}
 use Rattle.model.specs.keys.Order.{key, lt}
 use Rattle.model.specs.records.Record.{elements}
-use Rattle.model.specs.tables.Tables.{maxPivots, all, BoundedKey, ValidLeftCutOffKey, CutoffForLeft, CutoffForRight}
+use Rattle.model.specs.tables.Tables.{maxPivots, BoundedKey, ValidLeftCutOffKey, CutoffForLeft, CutoffForRight}
 use Rattle.model.specs.cuts.Cuts.{SplitLeft}
-use Rattle.model.specs.buckets.Bucket.{Bucket, entrySize, entries, TranslateBucket, TranslateBuckets}
+use Rattle.model.specs.buckets.Bucket.{Bucket, entrySize, entries, TranslateBuckets}
 use Rattle.model.specs.buckets.Index.{entriesBelow, entriesFrom, slotEntries, slotBuckets, together, placeSize}
-use Rattle.model.specs.calls.BucketCalls.{shortEntry}
 use Rattle.model.specs.calls.IndexCalls.{cutIndexCauses, cutIndexAnswer, translateIndexCauses, translateIndexAnswer}
 use Rattle.model.proofs.tables.Routing.{cutoff-left-inside}
 use Rattle.model.proofs.cuts.Cuts.{split-left-bounded}
@@ -25,8 +24,8 @@ use Rattle.model.proofs.buckets.CutSlots.{right-there, slots-right, node-order,
 use Rattle.model.proofs.calls.Refusals.{not-fails, or-neither}
 use Rattle.model.proofs.calls.TableCalls.{not-too-long}
 use Rattle.contracts.specs.Refuses.{RefusesAt, Refuses}
-use Rattle.contracts.specs.BucketLists.{TranslateBucketsWillFit, Inv, ILseq, InvLseq, keepRight, cutNode, CutsIndex, TranslatesIndex}
-use Rattle.contracts.proofs.ListsLent.{list-refused, bucket-refused, many-refused, outside-refused, long-refused, full-refused, list-accepted}
+use Rattle.contracts.specs.BucketLists.{TranslateBucketWillFit, TranslateBucketsWillFit, Inv, ILseq, InvLseq, keepRight, cutNode, CutsIndex, TranslatesIndex}
+use Rattle.contracts.proofs.ListsLent.{list-unsound, bucket-refused, many-refused, outside-refused, long-refused, full-refused, list-accepted}
 use Rattle.contracts.proofs.ListsLeft.{list-translated, list-passes, cut-made, cut-given}
 
 -- ---- ComputeTranslateCutOffKeepRightBuckets: a right cut at k, and the translation of what it leaves
@@ -39,9 +38,9 @@ module _ (p l x : List ℕ) (k : Key) (db dx : List ℕ) where
   translation-impl-473 = bucket-refused (tooLong k) (not (BoundedKey (elements p) k)) p l x _ _
 
   -- requires MutBucket.InvLseq(blist)
-  -- bucket and index don't hold the slots' buckets
-  pub translation-impl-474 : (ILseq l x (slotBuckets (elements p) (entries l)) → ⊥) → RefusesAt answers.Refused (cutIndexCauses false p l x k db dx) 7 WrongIndex (cutIndexAnswer false p l x k db dx)
-  translation-impl-474 = list-refused (tooLong k) (not (BoundedKey (elements p) k)) p l x _ _
+  -- the bucket isn't one whose entries rise (1, 2 or 14 then), or the index has no place for each bucket and the total, rising from 0 on
+  pub translation-impl-474 : (InvLseq l x (length (slotBuckets (elements p) (entries l))) → ⊥) → RefusesAt answers.Refused (cutIndexCauses false p l x k db dx) 7 WrongIndex (cutIndexAnswer false p l x k db dx)
+  translation-impl-474 = list-unsound (tooLong k) (not (BoundedKey (elements p) k)) p l x _ _
 
   -- requires 0 <= cRight as int < |blist|
   -- the key is in no slot
@@ -70,7 +69,7 @@ module _ (p l x : List ℕ) (k : Key) (p′ l′ x′ : List ℕ) (c : CutsIndex
   module _ (old new : Key) (db dx : List ℕ) where
     -- requires WillFitInPkv(bucket, prefix, newPrefix)
     -- a kept key of the cut bucket would pass 64 bytes
-    pub translation-impl-475 : all shortEntry (TranslateBucket (entriesFrom (key k) (slotEntries (elements p) (entries l) (CutoffForRight (elements p) k))) old new) ≡ false
+    pub translation-impl-475 : TranslateBucketWillFit (entriesFrom (key k) (slotEntries (elements p) (entries l) (CutoffForRight (elements p) k))) old new ≡ false
         → RefusesAt answers.Refused (translateIndexCauses p′ l′ x′ old new db dx) 8 TooLong (translateIndexAnswer p′ l′ x′ old new db dx)
     translation-impl-475 = long-refused p′ l′ x′ old new db dx _ right-list 0 (omega arith)
 
@@ -82,7 +81,7 @@ module _ (p l x : List ℕ) (k : Key) (p′ l′ x′ : List ℕ) (c : CutsIndex
 
     -- requires forall i | 0 <= i < |blist| :: WillFitInPkv(blist[i], prefix, newPrefix)
     -- a kept key of a bucket after the cut one would pass 64 bytes
-    pub translation-impl-476 : (i : ℕ) → CutoffForRight (elements p) k < i → i < length (slotBuckets (elements p) (entries l)) → all shortEntry (TranslateBucket (getD (slotBuckets (elements p) (entries l)) i []) old new) ≡ false
+    pub translation-impl-476 : (i : ℕ) → CutoffForRight (elements p) k < i → i < length (slotBuckets (elements p) (entries l)) → TranslateBucketWillFit (getD (slotBuckets (elements p) (entries l)) i []) old new ≡ false
         → RefusesAt answers.Refused (translateIndexCauses p′ l′ x′ old new db dx) 8 TooLong (translateIndexAnswer p′ l′ x′ old new db dx)
     translation-impl-476 i a h f =
         let n = CutoffForRight (elements p) k + 1 in
@@ -127,9 +126,9 @@ module _ (p l x : List ℕ) (db dx : List ℕ) where
     translation-impl-501 = bucket-refused (tooLong r) (not (ValidLeftCutOffKey (elements p) r)) p l x _ _
 
     -- requires MutBucket.InvLseq(blist)
-    -- bucket and index don't hold the slots' buckets
-    pub translation-impl-502 : (ILseq l x (slotBuckets (elements p) (entries l)) → ⊥) → RefusesAt answers.Refused (cutIndexCauses true p l x r db dx) 7 WrongIndex (cutIndexAnswer true p l x r db dx)
-    translation-impl-502 = list-refused (tooLong r) (not (ValidLeftCutOffKey (elements p) r)) p l x _ _
+    -- the bucket isn't one whose entries rise (1, 2 or 14 then), or the index has no place for each bucket and the total, rising from 0 on
+    pub translation-impl-502 : (InvLseq l x (length (slotBuckets (elements p) (entries l))) → ⊥) → RefusesAt answers.Refused (cutIndexCauses true p l x r db dx) 7 WrongIndex (cutIndexAnswer true p l x r db dx)
+    translation-impl-502 = list-unsound (tooLong r) (not (ValidLeftCutOffKey (elements p) r)) p l x _ _
 
     -- requires 0 <= cRight as int < cLeft as int < |blist|
     -- the key of the left cut is in no slot
@@ -194,7 +193,7 @@ module _ (p l x : List ℕ) (r : Key) (p′ l′ x′ : List ℕ) (c : CutsIndex
       module _ (old new : Key) (db dx : List ℕ) where
         -- requires WillFitInPkv(left, prefix, newPrefix)
         -- a kept key of the bucket cut on the right would pass 64 bytes
-        pub translation-impl-504 : all shortEntry (TranslateBucket (entriesFrom (key k) (slotEntries (elements p) (entries l) (CutoffForRight (elements p) k))) old new) ≡ false
+        pub translation-impl-504 : TranslateBucketWillFit (entriesFrom (key k) (slotEntries (elements p) (entries l) (CutoffForRight (elements p) k))) old new ≡ false
             → RefusesAt answers.Refused (translateIndexCauses p″ l″ x″ old new db dx) 8 TooLong (translateIndexAnswer p″ l″ x″ old new db dx)
         translation-impl-504 = long-refused p″ l″ x″ old new db dx _ node-list 0 (omega arith)
 
@@ -206,7 +205,7 @@ module _ (p l x : List ℕ) (r : Key) (p′ l′ x′ : List ℕ) (c : CutsIndex
 
         -- requires WillFitInPkv(right, prefix, newPrefix)
         -- a kept key of the bucket cut on the left would pass 64 bytes
-        pub translation-impl-505 : all shortEntry (TranslateBucket (entriesBelow (key r) (slotEntries (elements p) (entries l) (CutoffForLeft (elements p) r))) old new) ≡ false
+        pub translation-impl-505 : TranslateBucketWillFit (entriesBelow (key r) (slotEntries (elements p) (entries l) (CutoffForLeft (elements p) r))) old new ≡ false
             → RefusesAt answers.Refused (translateIndexCauses p″ l″ x″ old new db dx) 8 TooLong (translateIndexAnswer p″ l″ x″ old new db dx)
         translation-impl-505 f =
             let a = entriesFrom (key k) (slotEntries (elements p) (entries l) (CutoffForRight (elements p) k)) in
@@ -216,7 +215,7 @@ module _ (p l x : List ℕ) (r : Key) (p′ l′ x′ : List ℕ) (c : CutsIndex
 
         -- requires forall i | cRight as int+1 <= i < cLeft as int :: WillFitInPkv(blist[i], prefix, newPrefix)
         -- a kept key of a bucket between them would pass 64 bytes
-        pub translation-impl-506 : (i : ℕ) → CutoffForRight (elements p) k + 1 ≤ i → i < CutoffForLeft (elements p) r → all shortEntry (TranslateBucket (getD (slotBuckets (elements p) (entries l)) i []) old new) ≡ false
+        pub translation-impl-506 : (i : ℕ) → CutoffForRight (elements p) k + 1 ≤ i → i < CutoffForLeft (elements p) r → TranslateBucketWillFit (getD (slotBuckets (elements p) (entries l)) i []) old new ≡ false
             → RefusesAt answers.Refused (translateIndexCauses p″ l″ x″ old new db dx) 8 TooLong (translateIndexAnswer p″ l″ x″ old new db dx)
         translation-impl-506 i u v f =
             let a = entriesFrom (key k) (slotEntries (elements p) (entries l) (CutoffForRight (elements p) k)) in

@@ -10,9 +10,11 @@ use lib.Dec.{ltb}
 use lib.ListN.{length, take, drop, getD}
 use lib.Seq.{take-append-seam, drop-append-seam}
 use Rattle.model.specs.keys.Order.{Element, key, lt}
+use Rattle.model.specs.tables.Tables.{all}
 use Rattle.model.specs.buckets.Bucket.{Entry, Bucket, entriesRise}
 use Rattle.model.specs.buckets.Index.{only, isBelow, entriesBelow, entriesFrom}
 use Rattle.model.proofs.Lists.{le-or-lt}
+use Rattle.model.proofs.keys.Key.{both}
 use Rattle.model.proofs.keys.Order.{lt-lte, lte-trans-lt, refuted}
 use Rattle.model.proofs.tables.Places.{sorted-head, sorted-tail}
 
@@ -38,6 +40,18 @@ pub only-none : (test : Entry → Bool) (b : Bucket) → ((i : ℕ) (d : Entry) 
 unfolding only
 only-none test [] f = refl
 only-none test (e ∷ b) f = rw (f 0 e (omega arith), only-none test b (λ i d h. f (suc i) d (omega arith)))
+
+-- where all pass a test, and what passes it and is kept passes another, all kept pass the other
+pub only-passes : (test kept then : Entry → Bool) → ((e : Entry) → test e ≡ true → kept e ≡ true → then e ≡ true) → (b : Bucket) → all test b ≡ true → all then (only kept b) ≡ true
+unfolding all only
+only-passes test kept then f [] h = refl
+only-passes test kept then f (e ∷ b) h =
+    let w = both (test e) (all test b) h in
+    go (kept e) refl (w .0) (only-passes test kept then f b (w .1))
+  where
+    go : (s : Bool) → kept e ≡ s → test e ≡ true → all then (only kept b) ≡ true → all then (cond s (e ∷ only kept b) (only kept b)) ≡ true
+    go true k t r = rw (f e t k) r
+    go false k t r = r
 
 -- ---- rising entries
 

@@ -151,21 +151,22 @@ module _ (l : List ℕ) (p q : Key) (d : List ℕ) (m : ℕ) (h : translateBucke
   pub bucket-answers : m ≡ length (newBucket l p q)
   bucket-answers = value-is (translateBucketCauses l p q d) (length (newBucket l p q)) (translateBucketAnswer l p q d) refl m h
 
-  written : take (m * entrySize) (translateBucketLeaves l p q d) ≡ encodeBucket (newBucket l p q)
-  written =
+  -- the bytes of the entries kept are written
+  pub renamed-written : take (m * entrySize) (translateBucketLeaves l p q d) ≡ encodeBucket (newBucket l p q)
+  renamed-written =
       let e : translateBucketLeaves l p q d ≡ over (encodeBucket (newBucket l p q)) d = sym (passed (λ (_ : Refusal). d) _ _ (translateBucketCauses l p q d) no-cause refl) in
       let n : m * entrySize ≡ length (encodeBucket (newBucket l p q)) = rw bucket-answers (sym (length-encodeBucket (newBucket l p q) all-sized)) in
       rw (e, n) (take-over (encodeBucket (newBucket l p q)) d)
 
   -- what it wrote stands for the renamed bucket
   pub renamed-reads : entries (take (m * entrySize) (translateBucketLeaves l p q d)) ≡ newBucket l p q
-  renamed-reads = rw written (entries-encodeBucket (newBucket l p q) all-sized)
+  renamed-reads = rw renamed-written (entries-encodeBucket (newBucket l p q) all-sized)
 
   -- and passes the check: it can be lent to the next call
   pub renamed-passes : first (bucketCauses false (take (m * entrySize) (translateBucketLeaves l p q d))) ≡ none
   renamed-passes =
       let a = translated-wft (entries l) p q 0 (omega arith) .atMost in
-      rw written (written-bucket (newBucket l p q) all-sized (omega (arith, a, bucket-count _ l checked, bucket-most _ l checked)))
+      rw renamed-written (written-bucket (newBucket l p q) all-sized (omega (arith, a, bucket-count _ l checked, bucket-most _ l checked)))
 
 -- ---- will it fit
 

@@ -1,16 +1,18 @@
 -- Each call lists its causes in the one order, so that "the first in the order" is the first of its list.
 use mathlib.Core.Path.{_≡_, refl}
-use mathlib.Core.Bool.{Bool, true}
-use mathlib.Core.List.{List}
+use mathlib.Core.Bool.{Bool, true, false}
+use mathlib.Core.List.{List, [], _∷_}
 use Prim.Native.Nat.{ℕ, _+_}
-use Rattle.model.specs.declared.Refusal.the-variants.{EmptyPrefix, NotMeeting, EntriesUnsorted, OutOfRange, AlreadyPivot, TooManyPivots, WrongIndex, NoSuchSlot, NotPrefix, TooLong, NotBelow, NoRoom}
-use Rattle.model.specs.calls.Refusals.{turn, paired, inTurn}
+use Rattle.model.specs.declared.Refusal.the-variants.{Shape, EmptyPrefix, NotMeeting, EntriesUnsorted, OutOfRange, AlreadyPivot, TooManyPivots, WrongIndex, NoSuchSlot, NotPrefix, TooLong, NotBelow, NoRoom}
+use Rattle.model.specs.calls.Refusals.{_⇒_, turn, paired, inTurn}
 use Rattle.model.specs.calls.KeyCalls.{compareCauses, pivotKeyCauses, entryKeyCauses, changePrefixCauses, pivotLcpCauses, uncommonPrefixCauses}
 use Rattle.model.specs.calls.TableCalls.{pivotCauses, tableCauses, containsRangeCauses, getKeyCauses, initPivotTableCauses, slotCauses}
 use Rattle.model.specs.calls.CutCalls.{cutCauses}
 use Rattle.model.specs.calls.InsertionCalls.{insertCauses}
 use Rattle.model.specs.calls.JoinCalls.{joinCauses}
-use Rattle.model.specs.calls.TranslationCalls.{translateKeyCauses}
+use Rattle.model.specs.translation.PairState.{PairState}
+use Rattle.model.specs.calls.PairCalls.{reverseCauses, applyCauses, composeCauses}
+use Rattle.model.specs.calls.TranslationCalls.{translateCauses, translateKeyCauses}
 use Rattle.model.specs.calls.PairRecordCalls.{reversePairCauses, applyPairCauses, composePairsCauses, translatePairCauses}
 use Rattle.model.specs.calls.RenamingCalls.{pivotPairCauses, pivotsCauses, edgesCauses}
 use Rattle.model.specs.calls.ParentChildCalls.{parentChildCauses}
@@ -22,6 +24,10 @@ use Rattle.model.specs.list.ShelfList.{listCauses, listTableCauses}
 pub directly-after : (turn EmptyPrefix + 1 ≡ turn NotMeeting) × (turn NotMeeting + 1 ≡ turn EntriesUnsorted) × (turn EntriesUnsorted + 1 ≡ turn OutOfRange) × (turn OutOfRange + 1 ≡ turn AlreadyPivot) × (turn AlreadyPivot + 1 ≡ turn TooManyPivots) × (turn TooManyPivots + 1 ≡ turn WrongIndex)
     × (turn WrongIndex + 1 ≡ turn NoSuchSlot) × (turn NoSuchSlot + 1 ≡ turn NotPrefix) × (turn NotPrefix + 1 ≡ turn TooLong) × (turn TooLong + 1 ≡ turn NotBelow) × (turn NotBelow + 1 ≡ turn NoRoom)
 directly-after = (refl, refl, refl, refl, refl, refl, refl, refl, refl, refl, refl)
+
+-- each cause is held to the one before it: NoRoom before TooLong is out of turn, though both come after Shape
+pub out-of-turn : (t u v : Bool) → (inTurn 0 ((t ⇒ Shape) ∷ (u ⇒ TooLong) ∷ (v ⇒ NoRoom) ∷ []) ≡ true) × (inTurn 0 ((t ⇒ Shape) ∷ (u ⇒ NoRoom) ∷ (v ⇒ TooLong) ∷ []) ≡ false)
+out-of-turn t u v = (refl, refl)
 
 module _ (a b c d e : List ℕ) where
   -- keys and records
@@ -45,7 +51,12 @@ module _ (a b c d e : List ℕ) where
   unfolding paired pivotCauses tableCauses
   join-in-turn f = refl
 
-  -- pairs
+  -- pairs by value
+  pub states-in-turn : (s t : PairState) → (inTurn 0 (reverseCauses s) ≡ true) × (inTurn 0 (applyCauses s a b) ≡ true) × (inTurn 0 (composeCauses s t) ≡ true) × (inTurn 0 (translateCauses a b c) ≡ true)
+  unfolding pivotCauses tableCauses
+  states-in-turn s t = (refl, refl, refl, refl)
+
+  -- pairs as records
   pub pairs-in-turn : (inTurn 0 (reversePairCauses a b) ≡ true) × (inTurn 0 (applyPairCauses a b c) ≡ true) × (inTurn 0 (composePairsCauses a b c) ≡ true)
       × (inTurn 0 (translatePairCauses a b c d) ≡ true)
   unfolding pivotCauses tableCauses

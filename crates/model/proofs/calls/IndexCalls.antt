@@ -23,7 +23,7 @@ use Rattle.model.specs.calls.IndexCalls.{checkIndexAnswer, slotEntriesCa
 use Rattle.model.proofs.tables.Routing.{wf-sorted, wf-count}
 use Rattle.model.proofs.buckets.Entries.{encode-append, length-encodeBucket, entries-encodeBucket}
 use Rattle.model.proofs.buckets.IndexBytes.{length-encodeIndex, places-encodeIndex, index-count}
-use Rattle.model.proofs.buckets.Index.{index-first, index-last, index-rises, slot-all, slot-routed}
+use Rattle.model.proofs.buckets.Index.{index-first, index-last, index-rises, slot-all, slot-routed, slot-empty}
 use Rattle.model.proofs.buckets.SlotBuckets.{slots-together}
 use Rattle.model.proofs.calls.Refusals.{after, passed, accepted, value-is, none-here, none-before, none-after}
 use Rattle.model.proofs.calls.RenamingCalls.{wrote}
@@ -113,6 +113,8 @@ pub record Indexes (p l : List ℕ) (m : ℕ) (x : List ℕ) : Type 0 where
   pub ends : placeAt (places x) (NumBuckets (elements p)) ≡ m
   pub rises : (i j : ℕ) → i ≤ j → j < length (elements p) → placeAt (places x) i ≤ placeAt (places x) j
   pub total : m ≡ length (entries l)
+  -- a slot to which no entry is routed has the place where the next begins
+  pub empty : (i : ℕ) → i < NumBuckets (elements p) → only (λ (e : Entry). eqb (Route (elements p) (e .key)) i) (entries l) ≡ [] → placeAt (places x) i ≡ placeAt (places x) (i + 1)
 
 indexes-of : (p l x : List ℕ) (m : ℕ) → first (entriesCauses false false p l) ≡ none → m ≡ length (entries l) → x ≡ indexBytes p l → Indexes p l m x
 indexes-of p l x m h t e =
@@ -126,11 +128,18 @@ indexes-of p l x m h t e =
       ends = rw r (index-last (elements p) (entries l) i n ∙ sym t);
       rises = rw r (index-rises (elements p) (entries l) (wf-sorted (elements p) w));
       total = t;
+      empty = rw r (slot-empty (elements p) (entries l) i w (entries-rise false false p l h));
     }
 
 -- what build leaves is such an index
 pub build-leaves : (p l d : List ℕ) (m : ℕ) → buildIndexAnswer p l d ≡ answers.Value m → Indexes p l m (take (length (elements p) * placeSize) (buildIndexLeaves p l d))
 build-leaves p l d m h = indexes-of p l _ m (build-none p l d m h) (build-answers p l d m h) (build-writes p l d m h)
+
+-- an index that the check accepts says the same, and its last place is what the check answers
+pub check-indexes : (p l x : List ℕ) (m : ℕ) → checkIndexAnswer p l x ≡ answers.Value m → Indexes p l m x
+check-indexes p l x m h =
+    let g = check-none p l x m h in
+    indexes-of p l x m (given-entries false false p l x g) (check-answers p l x m h) (given-index false false p l x g)
 
 -- ---- the slots' parts
 

@@ -1,7 +1,7 @@
 -- A bucket cut with its index: what the call writes is the entries on its side, with the index that build writes for them; both sides are the whole.
 use mathlib.Core.Path.{_≡_, refl, sym, ap, _∙_}
 use mathlib.Core.Bool.{Bool, true, false, cond, not, _||_, Bool·not-not}
-use mathlib.Core.List.{List, [], _∷_, _++_}
+use mathlib.Core.List.{List, _++_}
 use mathlib.Core.Option.{none}
 use Prim.Native.Nat.{ℕ, _+_, _*_, _≤_}
 use native.Mathlib.Omega.{arith}
@@ -15,20 +15,19 @@ use Rattle.model.specs.records.Record.{elements, encodeAll}
 use Rattle.model.specs.tables.Tables.{PivotTable, all, WFPivots, BoundedKey}
 use Rattle.model.specs.cuts.Sides.{inside, Split}
 use Rattle.model.specs.buckets.Bucket.{Entry, Bucket, entrySize, entries, encodeBucket, sizedEntry, entriesRise}
-use Rattle.model.specs.buckets.Index.{only, isBelow, entriesBelow, entriesFrom, entriesBeside, placeSize, encodeIndex}
+use Rattle.model.specs.buckets.Index.{isBelow, entriesBelow, entriesFrom, entriesBeside, placeSize, encodeIndex}
 use Rattle.model.specs.calls.Refusals.{outcome, first}
 use Rattle.model.specs.calls.KeyCalls.{noRoom}
 use Rattle.model.specs.calls.BucketCalls.{bucketCauses}
 use Rattle.model.specs.calls.CutCalls.{cutPivots}
 use Rattle.model.specs.calls.IndexCalls.{entriesInside, entriesCauses, indexBytes, givenCauses, buildIndexLeaves, checkIndexAnswer}
 use Rattle.model.specs.calls.IndexCalls.{cutEntries, cutIndex, cutIndexCauses, cutIndexAnswer, cutIndexLeavesBucket, cutIndexLeavesIndex}
-use Rattle.model.proofs.keys.Key.{both}
 use Rattle.model.proofs.records.Records.{elements-encodeAll}
 use Rattle.model.proofs.tables.Routing.{wf-all-short}
 use Rattle.model.proofs.cuts.Cuts.{split-left-bounded, split-right-bounded}
 use Rattle.model.proofs.cuts.Sides.{split-wf, split-most}
 use Rattle.model.proofs.buckets.Entries.{encode-append, length-encodeBucket, entries-encodeBucket}
-use Rattle.model.proofs.buckets.Below.{only-most, below-from, below-take, from-drop}
+use Rattle.model.proofs.buckets.Below.{only-most, only-passes, below-from, below-take, from-drop}
 use Rattle.model.proofs.buckets.IndexBytes.{length-encodeIndex, index-count}
 use Rattle.model.proofs.buckets.Index.{rise-take, rise-drop}
 use Rattle.model.proofs.calls.Refusals.{after, accepted, value-is, none-before}
@@ -37,21 +36,9 @@ use Rattle.model.proofs.calls.TableCalls.{causes-most}
 use Rattle.model.proofs.calls.BucketCalls.{bucket-encode, bucket-sized, bucket-count, bucket-most, written-bucket}
 use Rattle.model.proofs.calls.WrittenTables.{wf-causes}
 use Rattle.model.proofs.calls.IndexCauses.{entries-pivots, entries-bucket, entries-wf, entries-wrong, entries-outside, entries-rise, entries-inside, none-entries, given-entries}
-use Rattle.model.proofs.calls.IndexCalls.{check-accepts, checked-is-built}
+use Rattle.model.proofs.calls.IndexCalls.{check-accepts, checked-is-built, Indexes, check-indexes}
 
 -- ---- the entries on a side
-
--- where all pass a test, and what passes it and is kept passes another, all kept pass the other
-only-passes : (test kept then : Entry → Bool) → ((e : Entry) → test e ≡ true → kept e ≡ true → then e ≡ true) → (b : Bucket) → all test b ≡ true → all then (only kept b) ≡ true
-unfolding all only
-only-passes test kept then f [] h = refl
-only-passes test kept then f (e ∷ b) h =
-    let w = both (test e) (all test b) h in
-    go (kept e) refl (w .0) (only-passes test kept then f b (w .1))
-  where
-    go : (s : Bool) → kept e ≡ s → test e ≡ true → all then (only kept b) ≡ true → all then (cond s (e ∷ only kept b) (only kept b)) ≡ true
-    go true k t r = rw (f e t k) r
-    go false k t r = r
 
 module _ (k : Key) (b : Bucket) where
   -- they pass each test that all entries pass
@@ -180,6 +167,11 @@ module _ (left : Bool) (p l x : List ℕ) (k : Key) (db dx : List ℕ) (m : ℕ)
       (buildIndexLeaves (encodeAll (cutPivots left p k)) (take (m * entrySize) (cutIndexLeavesBucket left p l x k db dx)) d)
       ≡ take (length (cutPivots left p k) * placeSize) (cutIndexLeavesIndex left p l x k db dx)
   cut-is-built d r = checked-is-built _ _ _ m cut-checks d r
+
+  -- the index written begins with 0 and rises, weakly, and its last place is what the cut answers
+  pub cut-indexes : Indexes (encodeAll (cutPivots left p k)) (take (m * entrySize) (cutIndexLeavesBucket left p l x k db dx)) m
+      (take (length (cutPivots left p k) * placeSize) (cutIndexLeavesIndex left p l x k db dx))
+  cut-indexes = check-indexes _ _ _ m cut-checks
 
 -- ---- both sides
 

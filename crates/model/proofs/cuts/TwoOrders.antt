@@ -142,6 +142,6 @@ module _ (p e : List ℕ) (l r : Key) (b : Bytes p) (bl : Bytes l) (br : Bytes r
 
 -- Demand 3
 pub two-orders : Demand3
-two-orders p e l r a b c d bp be bl br y ml mr h f g u v =
+two-orders p e l r a b c d bp bl br y ml mr h f g u v =
     both-plain p e l r bp bl br y ml mr h f g (rightThenLeft l r a b p e) (leftThenRight l r c d p e)
     (order-ends (right-then-left p e l r bp bl br y ml mr h f g) a b u) (order-ends (left-then-right p e l r bp bl br y ml mr h f g) c d v)

@@ -102,7 +102,7 @@ pub record TwoOrders (l r : Key) (p e : List ℕ) (x y : End) : Type 0 where
 -- Demand 3, for all pivots p and edges e lent, all keys l and r, and all destinations: a and b of one order, c and d of the other
 abbrev pub Demand3 : Type 0
 Demand3 =
-    (p e : List ℕ) (l r : Key) (a b c d : Dests) → Bytes p → Bytes e → Bytes l → Bytes r
+    (p e : List ℕ) (l r : Key) (a b c d : Dests) → Bytes p → Bytes l → Bytes r
     -- "For every well-formed table with its edges"
     → wfEdgesAnswer p e ≡ decided.Yes
     -- "and all keys l and r of at most 64 bytes"
