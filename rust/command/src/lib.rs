@@ -2,6 +2,7 @@
 //! answer is the library's.
 #![forbid(unsafe_code)]
 
+mod apart;
 mod arguments;
 mod bucket;
 mod change;
@@ -11,12 +12,15 @@ mod files;
 mod help;
 mod list;
 mod man;
+mod nearest;
+mod operands;
 mod output;
 mod pages;
 mod refused;
 mod show;
 mod table;
 
+pub use apart::{FileId, StandardFiles};
 use failure::{Done, Failure};
 use pages::{page, Page, ABOUT, PAGES};
 use std::ffi::OsString;
@@ -31,6 +35,7 @@ pub struct Streams<'a> {
     pub terminal: bool,
     /// Whether it takes colour.
     pub colour: bool,
+    pub files: StandardFiles,
 }
 
 /// Runs the command with these arguments, and answers its exit status.
@@ -60,12 +65,14 @@ fn dispatch(arguments: &[OsString], streams: &mut Streams) -> Done {
         "--man" => output::print(streams, man::man().as_bytes()),
         name => match page(name) {
             Some(page) => of_page(page, rest, streams),
-            None => Err(Failure::usage(
-                format!("there is no command {name:?}"),
-                "--help",
-            )),
+            None => Err(no_command(name)),
         },
     }
+}
+
+fn no_command(name: &str) -> Failure {
+    let hint = nearest::hint(name, PAGES.iter().map(|page| page.name));
+    Failure::usage(format!("there is no command {name:?}{hint}"), "--help")
 }
 
 fn version() -> String {
@@ -80,10 +87,7 @@ fn asked_help(names: &[OsString], streams: &mut Streams) -> Done {
     let name = name.to_string_lossy();
     match page(&name) {
         Some(page) => output::print(streams, help::one(page).as_bytes()),
-        None => Err(Failure::usage(
-            format!("there is no command {name:?}"),
-            "--help",
-        )),
+        None => Err(no_command(&name)),
     }
 }
 
@@ -92,5 +96,6 @@ fn of_page(page: &'static Page, rest: &[OsString], streams: &mut Streams) -> Don
     if arguments.help {
         return output::print(streams, help::one(page).as_bytes());
     }
+    apart::check(&arguments, streams)?;
     (page.run)(&arguments, streams)
 }

@@ -1,6 +1,7 @@
 //! The commands: what `--help` and the manual page say of each, its options, and what runs it.
 use crate::arguments::Arguments;
 use crate::failure::Done;
+use crate::operands::Operand;
 use crate::{bucket, change, check, list, show, table, Streams};
 
 /// A command. Its example is run by a test: lines after `$ `, and what they print.
@@ -10,6 +11,9 @@ pub struct Page {
     pub about: &'static str,
     pub text: &'static [&'static str],
     pub options: &'static [(&'static str, &'static str)],
+    pub operands: &'static [Operand],
+    /// Whether it makes of what is read another thing of the kind, which may take its place.
+    pub in_place: fn(&Arguments) -> bool,
     pub example: &'static str,
     pub run: fn(&Arguments, &mut Streams) -> Done,
 }
@@ -36,9 +40,21 @@ impl Page {
     pub fn writes(&self) -> bool {
         self.options.contains(&FILE)
     }
+
+    /// All options, as they are given, with what they mean.
+    pub fn all_options(&self) -> impl Iterator<Item = (&'static str, &'static str)> {
+        let given = |&(option, meaning)| match option == FILE.0 {
+            true => OUTPUT.map(|option| (option, meaning)).to_vec(),
+            false => vec![(option, meaning)],
+        };
+        self.options.iter().flat_map(given).chain([HELP])
+    }
 }
 
 const FILE: (&str, &str) = ("-o FILE", "writes to a file, whole or not at all");
+/// The options that a file follows.
+pub const OUTPUT: [&str; 2] = ["-o", "--output"];
+const HELP: (&str, &str) = ("--help", "prints this text");
 const TEXT: (&str, &str) = (
     "--text",
     "takes keys as they are written, not in hexadecimal",
@@ -53,6 +69,8 @@ pub const PAGES: &[Page] = &[
             "Prints the list of a table, a line for each slot: its number, its bounds, the prefix that all its keys share, and its edge, the prefix that replaces it. It is what list_table writes, byte for byte.",
         ],
         options: &[FILE],
+        operands: &[Operand::File("table")],
+        in_place: |_| false,
         example: include_str!("pages/list.txt"),
         run: list::run,
     },
@@ -66,6 +84,8 @@ pub const PAGES: &[Page] = &[
             "In the short form a line has left and edge alone, and the last line the end, a key or max.",
         ],
         options: &[FILE],
+        operands: &[Operand::FileOrInput("text")],
+        in_place: |_| false,
         example: include_str!("pages/table.txt"),
         run: table::run,
     },
@@ -82,6 +102,8 @@ pub const PAGES: &[Page] = &[
             TEXT,
             ("--tsv", "a header and a row for each key, fields parted by tabs"),
         ],
+        operands: &[Operand::File("table"), Operand::KeyOrInput],
+        in_place: |_| false,
         example: include_str!("pages/show.txt"),
         run: show::run,
     },
@@ -93,6 +115,8 @@ pub const PAGES: &[Page] = &[
             "Writes the table of what lies below the key, the left cut, or from the key on, the right cut. Keys that are kept are renamed as before.",
         ],
         options: &[TEXT, FILE],
+        operands: &[Operand::Word(&["left", "right"]), Operand::File("table"), Operand::Key],
+        in_place: |_| true,
         example: include_str!("pages/cut.txt"),
         run: change::cut,
     },
@@ -104,6 +128,8 @@ pub const PAGES: &[Page] = &[
             "Writes the table with the key as a new pivot, which divides the slot that it lies in. Every key is renamed as before.",
         ],
         options: &[TEXT, FILE],
+        operands: &[Operand::File("table"), Operand::Key],
+        in_place: |_| true,
         example: include_str!("pages/insert.txt"),
         run: change::insert,
     },
@@ -115,6 +141,8 @@ pub const PAGES: &[Page] = &[
             "Writes the table of both, where the first ends with the pivot that the second begins with. Every key is renamed as by the one that it lies in.",
         ],
         options: &[FILE],
+        operands: &[Operand::File("table"), Operand::File("table")],
+        in_place: |_| true,
         example: include_str!("pages/join.txt"),
         run: change::join,
     },
@@ -126,6 +154,8 @@ pub const PAGES: &[Page] = &[
             "Says for each table that is well formed how large it is. For any other the refusal is told, and the first pivot or edge that is at fault.",
         ],
         options: &[FILE],
+        operands: &[Operand::File("table")],
+        in_place: |_| false,
         example: include_str!("pages/check.txt"),
         run: check::run,
     },
@@ -142,6 +172,8 @@ pub const PAGES: &[Page] = &[
             ("--report", "a row for each entry: kept, skipped or too long"),
             FILE,
         ],
+        operands: &[Operand::Word(&["translate"]), Operand::Key, Operand::Key, Operand::File("bucket")],
+        in_place: |arguments| !arguments.has("--report"),
         example: include_str!("pages/bucket.txt"),
         run: bucket::run,
     },

@@ -67,6 +67,7 @@ pub fn command(arguments: &[impl AsRef<OsStr>], mut input: &[u8]) -> Ran {
         errors: &mut errors,
         terminal: false,
         colour: false,
+        files: Default::default(),
     };
     let arguments = arguments.iter().map(|word| word.as_ref().to_os_string());
     let status = run(arguments, &mut streams);

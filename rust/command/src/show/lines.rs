@@ -17,7 +17,7 @@ pub struct Fault {
 pub fn next(streams: &mut Streams) -> Result<Option<Vec<u8>>, Failure> {
     let mut line = vec![];
     let input = &mut streams.input;
-    let unread = |error| Failure::File(format!("standard input: {error}"));
+    let unread = |error| Failure::file("standard input", &error);
     let mut head = input.take(MOST as u64 + 1);
     let read = head.read_until(b'\n', &mut line).map_err(unread)?;
     if line.pop_if(|last| *last == b'\n').is_none() && line.len() > MOST {

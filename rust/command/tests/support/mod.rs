@@ -48,6 +48,7 @@ pub fn ran_words(
             errors: &mut errors,
             terminal,
             colour,
+            files: Default::default(),
         },
     );
     let errors = String::from_utf8(errors).expect("messages are text");
