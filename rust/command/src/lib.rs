@@ -7,6 +7,7 @@ mod arguments;
 mod bucket;
 mod change;
 mod check;
+mod completions;
 mod failure;
 mod files;
 mod help;
@@ -22,7 +23,7 @@ mod table;
 
 pub use apart::{FileId, StandardFiles};
 use failure::{Done, Failure};
-use pages::{page, Page, ABOUT, PAGES};
+use pages::{page, Page, ABOUT, OPTIONS, PAGES};
 use std::ffi::OsString;
 use std::io::{BufRead, Write};
 
@@ -63,6 +64,7 @@ fn dispatch(arguments: &[OsString], streams: &mut Streams) -> Done {
         }
         "-V" | "--version" => output::print(streams, version().as_bytes()),
         "--man" => output::print(streams, man::man().as_bytes()),
+        "--completions" => asked_completions(rest, streams),
         name => match page(name) {
             Some(page) => of_page(page, rest, streams),
             None => Err(no_command(name)),
@@ -71,9 +73,14 @@ fn dispatch(arguments: &[OsString], streams: &mut Streams) -> Done {
 }
 
 fn no_command(name: &str) -> Failure {
-    let hint = nearest::hint(name, PAGES.iter().map(|page| page.name));
+    let options = OPTIONS.iter().map(|(option, _)| *option);
+    let names = PAGES.iter().map(|page| page.name).chain(options);
+    let hint = nearest::hint(name, names);
     Failure::usage(format!("there is no command {name:?}{hint}"), "--help")
 }
+
+/// The day of this version, for the manual page.
+const DATE: &str = "2026-11-17";
 
 fn version() -> String {
     format!("joistdenim {}\n", env!("CARGO_PKG_VERSION"))
@@ -89,6 +96,15 @@ fn asked_help(names: &[OsString], streams: &mut Streams) -> Done {
         Some(page) => output::print(streams, help::one(page).as_bytes()),
         None => Err(no_command(&name)),
     }
+}
+
+fn asked_completions(shells: &[OsString], streams: &mut Streams) -> Done {
+    let text = match shells {
+        [shell] => shell.to_str().and_then(completions::of),
+        _ => None,
+    };
+    let wrong = || Failure::usage("--completions takes bash, zsh or fish", "--help");
+    output::print(streams, text.ok_or_else(wrong)?.as_bytes())
 }
 
 fn of_page(page: &'static Page, rest: &[OsString], streams: &mut Streams) -> Done {

@@ -38,8 +38,7 @@ pub fn reads<'a>(page: &Page, arguments: &'a [OsString]) -> Vec<Read<'a>> {
         let path = OsStr::new(STREAM);
         return vec![Read { path, holds }];
     }
-    // The last one is what may be given several times.
-    let last = page.operands.last();
+    let last = page.operands.last().filter(|_| page.repeats());
     let operands = page.operands.iter().chain(last.into_iter().cycle());
     let read = |(path, operand): (&'a OsString, &Operand)| {
         let holds = operand.holds(path)?;

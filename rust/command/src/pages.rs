@@ -33,12 +33,17 @@ impl Page {
     /// An option without an argument.
     pub fn flag(&self, option: &str) -> Option<&'static str> {
         let mut flags = self.options.iter().map(|(flag, _)| *flag);
-        flags.find(|flag| *flag == option && *flag != FILE.0)
+        flags.find(|flag| *flag == option)
     }
 
     /// Whether it takes the option for a file that is written.
     pub fn writes(&self) -> bool {
         self.options.contains(&FILE)
+    }
+
+    /// Whether its last argument may be followed by more of the kind.
+    pub fn repeats(&self) -> bool {
+        self.usage.contains("..")
     }
 
     /// All options, as they are given, with what they mean.
@@ -51,14 +56,25 @@ impl Page {
     }
 }
 
-const FILE: (&str, &str) = ("-o FILE", "writes to a file, whole or not at all");
-/// The options that a file follows.
+const FILE: (&str, &str) = ("-o, --output FILE", "writes to a file, whole or not at all");
+/// The short and the long option for that file.
 pub const OUTPUT: [&str; 2] = ["-o", "--output"];
-const HELP: (&str, &str) = ("--help", "prints this text");
+const HELP: (&str, &str) = ("--help", "tells how it is used");
 const TEXT: (&str, &str) = (
     "--text",
     "takes keys as they are written, not in hexadecimal",
 );
+
+/// What can stand in place of a command.
+pub const OPTIONS: [(&str, &str); 4] = [
+    HELP,
+    ("--version", "prints the version"),
+    ("--man", "prints the manual page"),
+    (
+        "--completions",
+        "prints what a shell reads to complete words",
+    ),
+];
 
 pub const PAGES: &[Page] = &[
     Page {
@@ -199,6 +215,18 @@ pub const ABOUT: &[Section] = &[
         ],
     },
     Section {
+        title: "Files",
+        text: &[
+            "-o FILE is also -oFILE, --output FILE and --output=FILE; - is standard output. FILE is replaced once the result is whole, and only if it may be written to. Where it, or standard output, is one of the files that are read, nothing is done. Only cut, insert, join and bucket translate without --report, which make of a table or bucket another one, may have as FILE what they read.",
+        ],
+    },
+    Section {
+        title: "Limits",
+        text: &[
+            "A table has 2 to 64 pivots, a bucket at most 512 entries, and a key or an edge at most 64 bytes. A text has at most 1,048,576 bytes, with its comments.",
+        ],
+    },
+    Section {
         title: "Exit status",
         text: &[
             "0: done. 1: refused by the library, with 'refused N: what it means' on standard error. 2: wrong usage, or a file that can't be read or written. After 1 and 2 no file is changed. A closed pipe ends the command quietly.",
@@ -207,5 +235,11 @@ pub const ABOUT: &[Section] = &[
     Section {
         title: "Environment",
         text: &["NO_COLOR, if set and not empty, turns colour off; so does TERM, if not set or dumb."],
+    },
+    Section {
+        title: "Completions",
+        text: &[
+            "'joistdenim --completions SHELL' prints what bash, zsh or fish reads to complete commands, options and files. In bash 'source <(joistdenim --completions bash)' takes it in; for zsh it is kept as _joistdenim in a folder of fpath, and for fish as joistdenim.fish in ~/.config/fish/completions.",
+        ],
     },
 ];

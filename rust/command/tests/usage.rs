@@ -1,6 +1,7 @@
 //! How the command is called: help, version, wrong usage, and keys that are none.
 mod support;
 
+use joistdenim::{MAX_ENTRIES, MAX_LEN, MAX_PIVOTS, MIN_PIVOTS};
 use std::fs;
 use support::{ran, ran_words, Folder, LIST_OF_T, SHORT_T};
 
@@ -30,6 +31,16 @@ fn help_names_every_command_and_has_its_example() {
     }
     assert_eq!(ran("-h", "").text(), all);
     assert_eq!(ran("help", "").text(), all);
+}
+
+#[test]
+fn help_has_the_limits() {
+    let all = ran("--help", "").text().replace("\n  ", " ");
+    let limits = format!(
+        "A table has {MIN_PIVOTS} to {MAX_PIVOTS} pivots, a bucket at most {MAX_ENTRIES} entries, \
+         and a key or an edge at most {MAX_LEN} bytes."
+    );
+    assert!(all.contains(&limits));
 }
 
 #[test]
@@ -89,6 +100,8 @@ fn a_mistyped_name_is_told_with_the_nearest() {
         ("jion", "join"),
         ("chekc", "check"),
         ("buckets", "bucket"),
+        ("--hlep", "--help"),
+        ("--completion", "--completions"),
     ] {
         meant(word, "command", word, name, "--help");
         meant(&format!("help {word}"), "command", word, name, "--help");

@@ -155,6 +155,11 @@ pub fn root() -> PathBuf {
     root.canonicalize().expect("the root")
 }
 
+/// The text of a file of the repository.
+pub fn document(path: &str) -> String {
+    fs::read_to_string(root().join(path)).expect(path)
+}
+
 /// The command as a program.
 pub fn program() -> Command {
     Command::new(env!("CARGO_BIN_EXE_joistdenim"))
