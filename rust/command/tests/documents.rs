@@ -108,7 +108,7 @@ fn examples_of_help_run() {
 fn lines_of_the_document_run() {
     let blocks = blocks(&document("docs/COMMAND.md"));
     let shown: Vec<&String> = blocks.iter().filter(has_commands).collect();
-    assert_eq!(shown.len(), 4);
+    assert_eq!(shown.len(), 5);
     shown.into_iter().for_each(|block| run(block));
 }
 
