@@ -72,14 +72,18 @@ impl Arguments {
             Some(Some(file)) => self.write_to(file),
             Some(None) => self.write_to(words.next().map_or(OsStr::new(""), OsString::as_os_str)),
             None => {
-                let options = self.page.all_options().map(|(option, _)| option);
-                let hint = nearest::hint(&option, options);
-                let unknown = || self.wrong(format!("there is no option {option:?}{hint}"));
-                let flag = self.page.flag(&option).ok_or_else(unknown)?;
-                self.flags.push(flag);
+                let flag = self.page.flag(&option);
+                self.flags.push(flag.ok_or_else(|| self.unknown(&option))?);
                 Ok(())
             }
         }
+    }
+
+    fn unknown(&self, option: &str) -> Failure {
+        let name = option.split('=').next().unwrap_or(option);
+        let names = self.page.all_options().map(|(option, _)| option);
+        let hint = nearest::hint(name, names);
+        self.wrong(format!("there is no option {option:?}{hint}"))
     }
 
     fn write_to(&mut self, file: &OsStr) -> Result<(), Failure> {

@@ -28,28 +28,23 @@ fn nearest<'a>(word: &str, names: impl Iterator<Item = &'a str>) -> Option<&'a s
         .map(|(_, name)| name)
 }
 
-/// How many letters must be put in, taken out, changed, or exchanged with the next.
+/// How many letters must be put in, taken out or changed.
 fn distance(from: &str, to: &str) -> usize {
-    let from: Vec<char> = from.chars().collect();
     let to: Vec<char> = to.chars().collect();
-    let mut rows: Vec<Vec<usize>> = vec![(0..=to.len()).collect()];
-    for i in 1..=from.len() {
-        rows.push(next_row(&from[..i], &to, &rows));
+    let mut row: Vec<usize> = (0..=to.len()).collect();
+    for letter in from.chars() {
+        row = next_row(letter, &to, &row);
     }
-    rows[from.len()][to.len()]
+    row[to.len()]
 }
 
-/// The distances of this head to each head of the other word, from those of shorter heads.
-fn next_row(head: &[char], to: &[char], rows: &[Vec<usize>]) -> Vec<usize> {
-    let i = head.len();
-    let mut row = vec![i];
-    for j in 1..=to.len() {
-        let changed = rows[i - 1][j - 1] + usize::from(head[i - 1] != to[j - 1]);
-        let mut least = changed.min(rows[i - 1][j] + 1).min(row[j - 1] + 1);
-        if i > 1 && j > 1 && head[i - 2] == to[j - 1] && head[i - 1] == to[j - 2] {
-            least = least.min(rows[i - 2][j - 2] + 1);
-        }
-        row.push(least);
+/// The distances to each head of the other word once a letter more is looked at, from those without
+/// it.
+fn next_row(letter: char, to: &[char], above: &[usize]) -> Vec<usize> {
+    let mut row = vec![above[0] + 1];
+    for (j, other) in to.iter().enumerate() {
+        let changed = above[j] + usize::from(letter != *other);
+        row.push(changed.min(above[j + 1] + 1).min(row[j] + 1));
     }
     row
 }

@@ -40,15 +40,16 @@ pub fn bytes(bytes: &[u8], arguments: &Arguments, streams: &mut Streams) -> Done
 
 /// A new file beside the old one, which takes its place once it is whole.
 fn replace(path: &OsStr, bytes: &[u8]) -> Done {
-    let failed = |error| Failure::file(&name_of(path), &error);
+    let name = name_of(path);
+    let failed = |error| Failure::file(&name, &error);
+    let denied = |why: String| Failure::File(format!("{name}: {why}: give -o another file"));
     let place = place_of(Path::new(path)).map_err(failed)?;
-    may_be_written(&place).map_err(|error| {
-        let (name, reason) = (name_of(path), reason(&error));
-        Failure::File(format!(
-            "{name}: {reason}, so it isn't replaced: give -o another file"
-        ))
+    may_be_written(&place)
+        .map_err(|error| denied(format!("{}, so it isn't replaced", reason(&error))))?;
+    let (new, file) = create_beside(&place).map_err(|error| match error.kind() {
+        ErrorKind::PermissionDenied => denied("no file may be made in its folder".into()),
+        _ => failed(error),
     })?;
-    let (new, file) = create_beside(&place).map_err(failed)?;
     let written = fill(file, &place, bytes).and_then(|()| fs::rename(&new, &place));
     written.map_err(|error| {
         let _ = fs::remove_file(&new);

@@ -171,6 +171,19 @@ fn a_file_that_may_not_be_written_isnt_replaced() {
 }
 
 #[test]
+fn a_folder_that_may_not_be_written_gets_no_file() {
+    let folder = open_folder();
+    old_file(&folder, 0o666, false);
+    let before = folder.names();
+    quiet(&shell("chmod 555 .", folder.path()));
+    let line = "joistdenim: old: no file may be made in its folder: give -o another file";
+    failed(&list_as_somebody(&folder), 2, line);
+    assert_eq!(fs::read(folder.at("old")).expect("it"), b"as it was");
+    assert_eq!(folder.names(), before);
+    quiet(&shell("chmod 777 .", folder.path()));
+}
+
+#[test]
 fn a_file_that_may_be_written_is_replaced() {
     let folder = open_folder();
     for (mode, is_others) in [(0o200, false), (0o600, false), (0o666, true)] {

@@ -113,6 +113,8 @@ fn a_mistyped_name_is_told_with_the_nearest() {
         ("bucket", "--byte", "--bytes"),
         ("bucket", "--repotr", "--report"),
         ("list", "--out", "--output"),
+        ("list", "--outptu=a", "--output"),
+        ("list", "-O", "-o"),
         ("list", "--hlep", "--help"),
     ] {
         let help = format!("{command} --help");
