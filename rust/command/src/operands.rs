@@ -26,7 +26,7 @@ impl Operand {
     fn holds(&self, argument: &OsStr) -> Option<&'static str> {
         match self {
             Operand::File(holds) | Operand::FileOrInput(holds) => Some(holds),
-            Operand::KeyOrInput if argument == STREAM => Some("keys"),
+            Operand::KeyOrInput if argument == STREAM => Some("list of keys"),
             Operand::KeyOrInput | Operand::Key | Operand::Word(_) => None,
         }
     }
