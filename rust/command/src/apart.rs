@@ -30,10 +30,12 @@ impl FileId {
     }
 }
 
-/// The files that standard input and standard output are, where they are files.
+/// The files that the streams are, where they are files.
 #[derive(Default)]
 pub struct StandardFiles {
+    /// Standard input, as in `joistdenim table <t.txt`.
     pub input: Option<FileId>,
+    /// Standard output.
     pub output: Option<FileId>,
 }
 

@@ -36,6 +36,7 @@ pub struct Streams<'a> {
     pub terminal: bool,
     /// Whether it takes colour.
     pub colour: bool,
+    /// Which files are read and written through them.
     pub files: StandardFiles,
 }
 

@@ -167,7 +167,7 @@ pub const PAGES: &[Page] = &[
         usage: "TABLE.. [-o FILE]",
         about: "says whether tables are well formed",
         text: &[
-            "Says for each table that is well formed how large it is. For any other the refusal is told, and the first pivot or edge that is at fault.",
+            "Says for each table in turn how large it is, if it is well formed. For any other the refusal is told, and the first pivot or edge that is at fault. With -o nothing is written unless all are well formed.",
         ],
         options: &[FILE],
         operands: &[Operand::File("table")],
