@@ -92,7 +92,7 @@ fn what_is_read_isnt_replaced_by_something_else() {
 }
 
 #[test]
-fn nor_is_standard_input() {
+fn standard_input_isnt_replaced_by_something_else() {
     for (command, file, holds) in OTHERS {
         let folder = inputs();
         for output in names_of(file, &folder) {
@@ -178,7 +178,7 @@ fn standard_output_is_no_file_that_is_read() {
 }
 
 #[test]
-fn nor_is_it_standard_input() {
+fn standard_output_is_no_standard_input() {
     let folder = inputs();
     folder.with("keys", "4131\n");
     for (line, file, holds) in [

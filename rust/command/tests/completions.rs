@@ -102,7 +102,6 @@ fn bash_completes_commands_options_and_words() {
         (&["--help", "c"], &["check", "cut"]),
         (&["--completions", ""], &["bash", "fish", "zsh"]),
         (&["--version", ""], &[]),
-        (&["list", "-"], &output),
         (&["table", "t.txt", "-"], &output),
         (&["check", "--o"], &["--output"]),
         (&["cut", "-"], &text),

@@ -120,10 +120,8 @@ const SOMEBODY: u32 = 65534;
 /// is made by a process of its own: none that begins meanwhile may keep it open for writing.
 fn open_folder() -> Folder {
     let folder = folder();
-    quiet(&shell(
-        "chmod 777 . && cp $(command -v joistdenim) .",
-        folder.path(),
-    ));
+    let line = "cp $(command -v joistdenim) . && chmod a+rx joistdenim && chmod a+r *.table && chmod 777 .";
+    quiet(&shell(line, folder.path()));
     folder
 }
 
