@@ -53,7 +53,7 @@ fn the_version_is_the_crates() {
 #[test]
 fn wrong_commands_and_options() {
     wrong("", "a command is missing", "--help");
-    for word in ["rename", "--lst", "", "-", "x"] {
+    for word in ["rename", "split", "--lst", "", "-", "x"] {
         let line =
             format!("joistdenim: there is no command {word:?}; 'joistdenim --help' tells more");
         ran_words([word.into()].into_iter(), "", false, false).failed(2, &line);
