@@ -34,8 +34,8 @@
 
 /* The version. A new call raises the minor; a changed signature, answer or format the major.
  * CHANGELOG.md says what a caller must do. */
-#define JD_VERSION_MAJOR 3
-#define JD_VERSION_MINOR 2
+#define JD_VERSION_MAJOR 4
+#define JD_VERSION_MINOR 0
 #define JD_VERSION_PATCH 0
 
 #define JD_MAX_LEN 64

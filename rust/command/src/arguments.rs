@@ -1,6 +1,8 @@
 //! The arguments of a command: options, and the rest in turn.
 use crate::failure::Failure;
 use crate::keys;
+use crate::nearest;
+use crate::operands::{reads, Read};
 use crate::pages::Page;
 use std::ffi::{OsStr, OsString};
 use std::os::unix::ffi::OsStrExt;
@@ -33,17 +35,8 @@ pub fn read(page: &'static Page, words: &[OsString]) -> Result<Arguments, Failur
                 break;
             }
             "-h" | "--help" => arguments.help = true,
-            "-o" if page.writes() => {
-                let missing = || arguments.wrong("-o needs a file");
-                let file = words.next().ok_or_else(missing)?.clone();
-                if arguments.output.replace(file).is_some() {
-                    return Err(arguments.wrong("-o is given twice"));
-                }
-            }
             option if option.starts_with('-') && option != STREAM => {
-                let unknown = || arguments.wrong(format!("there is no option {option:?}"));
-                let flag = page.flag(option).ok_or_else(unknown)?;
-                arguments.flags.push(flag);
+                arguments.option(word, &mut words)?;
             }
             _ => arguments.rest.push(word.clone()),
         }
@@ -51,7 +44,65 @@ pub fn read(page: &'static Page, words: &[OsString]) -> Result<Arguments, Failur
     Ok(arguments)
 }
 
+/// The file that an option for the output is joined with, or none where it is the next word.
+fn output_option(word: &OsStr) -> Option<Option<&OsStr>> {
+    if word == "-o" || word == "--output" {
+        return Some(None);
+    }
+    let word = word.as_bytes();
+    let long = word.strip_prefix(b"--output=");
+    let joined = long.or_else(|| word.strip_prefix(b"-o"))?;
+    Some(Some(OsStr::from_bytes(joined)))
+}
+
 impl Arguments {
+    fn option<'a>(
+        &mut self,
+        word: &'a OsStr,
+        words: &mut impl Iterator<Item = &'a OsString>,
+    ) -> Result<(), Failure> {
+        let option = word.to_string_lossy();
+        match output_option(word).filter(|_| self.page.writes()) {
+            Some(_) if option.starts_with("-o=") => {
+                Err(self.wrong("no = stands behind -o: write -oFILE or --output=FILE"))
+            }
+            Some(Some(file)) => self.write_to(file),
+            Some(None) => self.write_to(words.next().map_or(OsStr::new(""), OsString::as_os_str)),
+            None => {
+                let flag = self.page.flag(&option);
+                self.flags.push(flag.ok_or_else(|| self.unknown(&option))?);
+                Ok(())
+            }
+        }
+    }
+
+    fn unknown(&self, option: &str) -> Failure {
+        let name = option.split('=').next().unwrap_or(option);
+        let names = self.page.all_options().map(|(option, _)| option);
+        let hint = nearest::hint(name, names);
+        self.wrong(format!("there is no option {option:?}{hint}"))
+    }
+
+    fn write_to(&mut self, file: &OsStr) -> Result<(), Failure> {
+        if file.is_empty() {
+            return Err(self.wrong("-o needs a file"));
+        }
+        match self.output.replace(file.into()) {
+            None => Ok(()),
+            Some(_) => Err(self.wrong("-o is given twice")),
+        }
+    }
+
+    /// The files that are read.
+    pub fn reads(&self) -> Vec<Read<'_>> {
+        reads(self.page, &self.rest)
+    }
+
+    /// Whether the output may be what was read.
+    pub fn in_place(&self) -> bool {
+        (self.page.in_place)(self)
+    }
+
     pub fn has(&self, flag: &str) -> bool {
         self.flags.contains(&flag)
     }

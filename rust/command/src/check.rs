@@ -3,21 +3,24 @@ use crate::arguments::Arguments;
 use crate::failure::Done;
 use crate::{files, output, Streams};
 use joistdenim::{Edge, Table};
-use std::fmt::Write;
 
-/// Each table is looked at, whatever is wrong with another. A file is written only if none is
-/// wrong.
+/// Each table is looked at, whatever is wrong with another, and its line or its fault is told before
+/// the next. A file is written only if none is wrong.
 pub fn run(arguments: &Arguments, streams: &mut Streams) -> Done {
     if arguments.rest.is_empty() {
         return Err(arguments.wrong("check takes tables"));
     }
     arguments.one_stream()?;
     let mut status = 0;
-    let mut text = String::new();
+    let mut lines = String::new();
     for path in &arguments.rest {
         match files::table(path, streams) {
             Ok(table) => {
-                let _ = writeln!(text, "{}: {}", files::name_of(path), size(&table));
+                let line = format!("{}: {}\n", files::name_of(path), size(&table));
+                match arguments.file() {
+                    Some(_) => lines += &line,
+                    None => drop(output::print(streams, line.as_bytes())?),
+                }
             }
             Err(failure) => {
                 let _ = write!(streams.errors, "{failure}");
@@ -25,8 +28,8 @@ pub fn run(arguments: &Arguments, streams: &mut Streams) -> Done {
             }
         }
     }
-    if status == 0 || arguments.file().is_none() {
-        output::text(&text, arguments, streams)?;
+    if status == 0 && arguments.file().is_some() {
+        output::text(&lines, arguments, streams)?;
     }
     Ok(status)
 }

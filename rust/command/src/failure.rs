@@ -1,6 +1,6 @@
 //! Why the command ends without doing its work.
 use joistdenim::Refusal;
-use std::fmt;
+use std::{fmt, io};
 
 /// The exit status, or why there is no result.
 pub type Done = Result<u8, Failure>;
@@ -31,6 +31,11 @@ impl Failure {
         Failure::Usage(text.into(), help.into())
     }
 
+    /// A file or stream that can't be read or written.
+    pub fn file(name: &str, error: &io::Error) -> Self {
+        Failure::File(format!("{name}: {}", reason(error)))
+    }
+
     pub fn refused(refusal: Refusal, text: impl Into<String>) -> Self {
         let text = text.into();
         Failure::Refused(Refused { refusal, text })
@@ -45,6 +50,14 @@ impl Failure {
     }
 }
 
+/// What went wrong in words, without the system's number for it.
+pub fn reason(error: &io::Error) -> String {
+    let text = error.to_string();
+    let number = error.raw_os_error().unwrap_or_default();
+    let words = text.strip_suffix(&format!(" (os error {number})"));
+    words.unwrap_or(&text).into()
+}
+
 impl From<Refused> for Failure {
     fn from(refused: Refused) -> Self {
         Failure::Refused(refused)
@@ -56,7 +69,8 @@ impl fmt::Display for Failure {
     fn fmt(&self, f: &mut fmt::Formatter<'_>) -> fmt::Result {
         match self {
             Failure::Usage(text, help) => {
-                writeln!(f, "joistdenim: {text}; 'joistdenim {help}' tells more")
+                let mark = if text.ends_with('?') { "" } else { ";" };
+                writeln!(f, "joistdenim: {text}{mark} 'joistdenim {help}' tells more")
             }
             Failure::File(text) => writeln!(f, "joistdenim: {text}"),
             Failure::Refused(Refused { refusal, text }) => {

@@ -7,7 +7,7 @@ use crate::Streams;
 use joistdenim::{ListError, Table, ENTRY_SIZE, MAX_ENTRIES, MAX_PIVOTS, RECORD_SIZE};
 use std::ffi::OsStr;
 use std::fs::File;
-use std::io::{self, Read};
+use std::io::Read;
 use std::str::FromStr;
 
 /// The bytes of a table of so many pivots.
@@ -65,8 +65,7 @@ pub fn bytes(path: &OsStr, most: usize, streams: &mut Streams) -> Result<Vec<u8>
         true => streams.input.take(limit).read_to_end(&mut bytes),
         false => File::open(path).and_then(|file| file.take(limit).read_to_end(&mut bytes)),
     };
-    let unread = |error: io::Error| Failure::File(format!("{}: {error}", name_of(path)));
-    read.map_err(unread)?;
+    read.map_err(|error| Failure::file(&name_of(path), &error))?;
     Ok(bytes)
 }
 

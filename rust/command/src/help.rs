@@ -4,12 +4,14 @@ use std::fmt::Write;
 
 /// The longest line of a paragraph.
 const WIDTH: usize = 78;
+/// The column of options is as wide, or wider where one is long.
+const OPTION_WIDTH: usize = 9;
 
 /// The commands, and what holds for all of them.
 pub fn all(about: &[Section], pages: &[Page]) -> String {
     let mut text = String::from(
         "joistdenim: tables, keys and buckets, by the proved library\n\n\
-         joistdenim COMMAND ..\njoistdenim COMMAND --help\njoistdenim --help | --version | --man\n\nCommands:\n",
+         joistdenim COMMAND ..\njoistdenim COMMAND --help\njoistdenim --help | --version | --man | --completions SHELL\n\nCommands:\n",
     );
     for page in pages {
         let _ = writeln!(text, "  {:<8}{}", page.name, page.about);
@@ -34,8 +36,10 @@ pub fn one(page: &Page) -> String {
     if !page.options.is_empty() {
         text += "\nOptions:\n";
     }
+    let names = page.options.iter().map(|(option, _)| option.len() + 2);
+    let width = names.fold(OPTION_WIDTH, usize::max);
     for (option, meaning) in page.options {
-        let _ = writeln!(text, "  {option:<9}{meaning}");
+        let _ = writeln!(text, "  {option:<width$}{meaning}");
     }
     text += "\nExample:\n";
     for line in page.example.lines() {

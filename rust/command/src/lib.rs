@@ -2,10 +2,12 @@
 //! answer is the library's.
 #![forbid(unsafe_code)]
 
+mod apart;
 mod arguments;
 mod bucket;
 mod change;
 mod check;
+mod completions;
 mod failure;
 mod files;
 mod help;
@@ -13,14 +15,17 @@ mod keys;
 mod kind;
 mod list;
 mod man;
+mod nearest;
+mod operands;
 mod output;
 mod pages;
 mod refused;
 mod show;
 mod table;
 
+pub use apart::{FileId, StandardFiles};
 use failure::{Done, Failure};
-use pages::{page, Page, ABOUT, PAGES};
+use pages::{page, Page, ABOUT, OPTIONS, PAGES};
 use std::ffi::OsString;
 use std::io::{BufRead, Write};
 
@@ -35,6 +40,8 @@ pub struct Streams<'a> {
     pub colour: bool,
     /// Whether standard error is a terminal.
     pub errors_terminal: bool,
+    /// Which files are read and written through them.
+    pub files: StandardFiles,
 }
 
 /// Runs the command with these arguments, and answers its exit status.
@@ -62,15 +69,23 @@ fn dispatch(arguments: &[OsString], streams: &mut Streams) -> Done {
         }
         "-V" | "--version" => output::print(streams, version().as_bytes()),
         "--man" => output::print(streams, man::man().as_bytes()),
+        "--completions" => asked_completions(rest, streams),
         name => match page(name) {
             Some(page) => of_page(page, rest, streams),
-            None => Err(Failure::usage(
-                format!("there is no command {name:?}"),
-                "--help",
-            )),
+            None => Err(no_command(name)),
         },
     }
 }
+
+fn no_command(name: &str) -> Failure {
+    let options = OPTIONS.iter().map(|(option, _)| *option);
+    let names = PAGES.iter().map(|page| page.name).chain(options);
+    let hint = nearest::hint(name, names);
+    Failure::usage(format!("there is no command {name:?}{hint}"), "--help")
+}
+
+/// The day of this version, for the manual page.
+const DATE: &str = "2026-11-17";
 
 fn version() -> String {
     format!("joistdenim {}\n", env!("CARGO_PKG_VERSION"))
@@ -84,11 +99,17 @@ fn asked_help(names: &[OsString], streams: &mut Streams) -> Done {
     let name = name.to_string_lossy();
     match page(&name) {
         Some(page) => output::print(streams, help::one(page).as_bytes()),
-        None => Err(Failure::usage(
-            format!("there is no command {name:?}"),
-            "--help",
-        )),
+        None => Err(no_command(&name)),
     }
+}
+
+fn asked_completions(shells: &[OsString], streams: &mut Streams) -> Done {
+    let text = match shells {
+        [shell] => shell.to_str().and_then(completions::of),
+        _ => None,
+    };
+    let wrong = || Failure::usage("--completions takes bash, zsh or fish", "--help");
+    output::print(streams, text.ok_or_else(wrong)?.as_bytes())
 }
 
 fn of_page(page: &'static Page, rest: &[OsString], streams: &mut Streams) -> Done {
@@ -96,5 +117,6 @@ fn of_page(page: &'static Page, rest: &[OsString], streams: &mut Streams) -> Don
     if arguments.help {
         return output::print(streams, help::one(page).as_bytes());
     }
+    apart::check(&arguments, streams)?;
     (page.run)(&arguments, streams)
 }

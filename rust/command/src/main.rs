@@ -1,8 +1,8 @@
 //! The command `joistdenim`.
-use command::{run, Streams};
+use command::{run, FileId, StandardFiles, Streams};
 use std::fs::File;
 use std::io::{stderr, stdin, stdout, IsTerminal, Write};
-use std::os::fd::AsFd;
+use std::os::fd::{AsFd, BorrowedFd};
 use std::process::ExitCode;
 
 fn main() -> ExitCode {
@@ -16,8 +16,18 @@ fn main() -> ExitCode {
         terminal,
         colour: terminal && !is_dumb && !is_set("NO_COLOR"),
         errors_terminal: stderr().is_terminal(),
+        files: StandardFiles {
+            input: file_of(stdin().as_fd()),
+            output: file_of(stdout().as_fd()),
+        },
     };
     ExitCode::from(run(std::env::args_os().skip(1), &mut streams))
+}
+
+/// The file that a stream is.
+fn file_of(stream: BorrowedFd) -> Option<FileId> {
+    let file = File::from(stream.try_clone_to_owned().ok()?);
+    FileId::of(&file.metadata().ok()?)
 }
 
 /// Standard output as a file: by itself it says nothing where it can't be written to at all.

@@ -1,6 +1,6 @@
 //! What is written: to standard output, or to a file, whole or not at all.
 use crate::arguments::Arguments;
-use crate::failure::{Done, Failure};
+use crate::failure::{reason, Done, Failure};
 use crate::files::name_of;
 use crate::Streams;
 use std::ffi::OsStr;
@@ -15,7 +15,7 @@ pub fn print(streams: &mut Streams, text: &[u8]) -> Done {
     match output.write_all(text).and_then(|()| output.flush()) {
         Ok(()) => Ok(0),
         Err(error) if error.kind() == ErrorKind::BrokenPipe => Err(Failure::Closed),
-        Err(error) => Err(Failure::File(format!("standard output: {error}"))),
+        Err(error) => Err(Failure::file("standard output", &error)),
     }
 }
 
@@ -40,15 +40,30 @@ pub fn bytes(bytes: &[u8], arguments: &Arguments, streams: &mut Streams) -> Done
 
 /// A new file beside the old one, which takes its place once it is whole.
 fn replace(path: &OsStr, bytes: &[u8]) -> Done {
-    let failed = |error: io::Error| Failure::File(format!("{}: {error}", name_of(path)));
+    let name = name_of(path);
+    let failed = |error| Failure::file(&name, &error);
+    let denied = |why: String| Failure::File(format!("{name}: {why}: give -o another file"));
     let place = place_of(Path::new(path)).map_err(failed)?;
-    let (new, file) = create_beside(&place).map_err(failed)?;
+    may_be_written(&place)
+        .map_err(|error| denied(format!("{}, so it isn't replaced", reason(&error))))?;
+    let (new, file) = create_beside(&place).map_err(|error| match error.kind() {
+        ErrorKind::PermissionDenied => denied("no file may be made in its folder".into()),
+        _ => failed(error),
+    })?;
     let written = fill(file, &place, bytes).and_then(|()| fs::rename(&new, &place));
     written.map_err(|error| {
         let _ = fs::remove_file(&new);
         failed(error)
     })?;
     Ok(0)
+}
+
+/// A file that its user may not write to is not replaced either, though the folder would allow it.
+fn may_be_written(place: &Path) -> io::Result<()> {
+    match File::options().write(true).open(place) {
+        Err(error) if error.kind() != ErrorKind::NotFound => Err(error),
+        _ => Ok(()),
+    }
 }
 
 /// A file of our own, under a name that nothing has.

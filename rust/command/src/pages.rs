@@ -1,6 +1,7 @@
 //! The commands: what `--help` and the manual page say of each, its options, and what runs it.
 use crate::arguments::Arguments;
 use crate::failure::Done;
+use crate::operands::Operand;
 use crate::{bucket, change, check, list, show, table, Streams};
 
 /// A command. Its example is run by a test: lines after `$ `, and what they print.
@@ -10,6 +11,9 @@ pub struct Page {
     pub about: &'static str,
     pub text: &'static [&'static str],
     pub options: &'static [(&'static str, &'static str)],
+    pub operands: &'static [Operand],
+    /// Whether it makes of what is read another thing of the kind, which may take its place.
+    pub in_place: fn(&Arguments) -> bool,
     pub example: &'static str,
     pub run: fn(&Arguments, &mut Streams) -> Done,
 }
@@ -29,20 +33,48 @@ impl Page {
     /// An option without an argument.
     pub fn flag(&self, option: &str) -> Option<&'static str> {
         let mut flags = self.options.iter().map(|(flag, _)| *flag);
-        flags.find(|flag| *flag == option && *flag != FILE.0)
+        flags.find(|flag| *flag == option)
     }
 
     /// Whether it takes the option for a file that is written.
     pub fn writes(&self) -> bool {
         self.options.contains(&FILE)
     }
+
+    /// Whether its last argument may be followed by more of the kind.
+    pub fn repeats(&self) -> bool {
+        self.usage.contains("..")
+    }
+
+    /// All options, as they are given, with what they mean.
+    pub fn all_options(&self) -> impl Iterator<Item = (&'static str, &'static str)> {
+        let given = |&(option, meaning)| match option == FILE.0 {
+            true => OUTPUT.map(|option| (option, meaning)).to_vec(),
+            false => vec![(option, meaning)],
+        };
+        self.options.iter().flat_map(given).chain([HELP])
+    }
 }
 
-const FILE: (&str, &str) = ("-o FILE", "writes to a file, whole or not at all");
+const FILE: (&str, &str) = ("-o, --output FILE", "writes to a file, whole or not at all");
+/// The short and the long option for that file.
+pub const OUTPUT: [&str; 2] = ["-o", "--output"];
+const HELP: (&str, &str) = ("--help", "tells how it is used");
 const TEXT: (&str, &str) = (
     "--text",
     "takes keys as they are written, not in hexadecimal",
 );
+
+/// What can stand in place of a command.
+pub const OPTIONS: [(&str, &str); 4] = [
+    HELP,
+    ("--version", "prints the version"),
+    ("--man", "prints the manual page"),
+    (
+        "--completions",
+        "prints what a shell reads to complete words",
+    ),
+];
 
 pub const PAGES: &[Page] = &[
     Page {
@@ -58,6 +90,8 @@ pub const PAGES: &[Page] = &[
             ("--text", "adds the keys as characters, behind a #"),
             FILE,
         ],
+        operands: &[Operand::File("table")],
+        in_place: |_| false,
         example: include_str!("pages/list.txt"),
         run: list::run,
     },
@@ -71,6 +105,8 @@ pub const PAGES: &[Page] = &[
             "In the short form a line has left and edge alone, and the last line the end, a key or max. An edge may be OLD>NEW, with what it replaces: where the keys of the slot share something else than OLD, that is told.",
         ],
         options: &[FILE],
+        operands: &[Operand::FileOrInput("text")],
+        in_place: |_| false,
         example: include_str!("pages/table.txt"),
         run: table::run,
     },
@@ -88,6 +124,8 @@ pub const PAGES: &[Page] = &[
             TEXT,
             ("--tsv", "a header and a row for each key, fields parted by tabs"),
         ],
+        operands: &[Operand::File("table"), Operand::KeyOrInput],
+        in_place: |_| false,
         example: include_str!("pages/show.txt"),
         run: show::run,
     },
@@ -99,6 +137,8 @@ pub const PAGES: &[Page] = &[
             "Writes the table of what lies below the key, the left cut, or from the key on, the right cut. Keys that are kept are renamed as before.",
         ],
         options: &[TEXT, FILE],
+        operands: &[Operand::Word(&["left", "right"]), Operand::File("table"), Operand::Key],
+        in_place: |_| true,
         example: include_str!("pages/cut.txt"),
         run: change::cut,
     },
@@ -110,6 +150,8 @@ pub const PAGES: &[Page] = &[
             "Writes the table with the key as a new pivot, which divides the slot that it lies in. Every key is renamed as before.",
         ],
         options: &[TEXT, FILE],
+        operands: &[Operand::File("table"), Operand::Key],
+        in_place: |_| true,
         example: include_str!("pages/insert.txt"),
         run: change::insert,
     },
@@ -121,6 +163,8 @@ pub const PAGES: &[Page] = &[
             "Writes the table of both, where the first ends with the pivot that the second begins with. Every key is renamed as by the one that it lies in.",
         ],
         options: &[FILE],
+        operands: &[Operand::File("table"), Operand::File("table")],
+        in_place: |_| true,
         example: include_str!("pages/join.txt"),
         run: change::join,
     },
@@ -129,9 +173,11 @@ pub const PAGES: &[Page] = &[
         usage: "TABLE.. [-o FILE]",
         about: "says whether tables are well formed",
         text: &[
-            "Says for each table that is well formed how large it is. For any other the refusal is told, and the first pivot or edge that is at fault.",
+            "Says for each table in turn how large it is, if it is well formed. For any other the refusal is told, and the first pivot or edge that is at fault. With -o nothing is written unless all are well formed.",
         ],
         options: &[FILE],
+        operands: &[Operand::File("table")],
+        in_place: |_| false,
         example: include_str!("pages/check.txt"),
         run: check::run,
     },
@@ -148,6 +194,8 @@ pub const PAGES: &[Page] = &[
             ("--report", "a row for each entry: kept, skipped or too long"),
             FILE,
         ],
+        operands: &[Operand::Word(&["translate"]), Operand::Key, Operand::Key, Operand::File("bucket")],
+        in_place: |arguments| !arguments.has("--report"),
         example: include_str!("pages/bucket.txt"),
         run: bucket::run,
     },
@@ -173,6 +221,18 @@ pub const ABOUT: &[Section] = &[
         ],
     },
     Section {
+        title: "Files",
+        text: &[
+            "-o FILE is also -oFILE, --output FILE and --output=FILE; - is standard output. FILE is replaced once the result is whole, and only if it may be written to. Where it, or standard output, is one of the files that are read, nothing is done. Only cut, insert, join and bucket translate without --report, which make of a table or bucket another one, may have as FILE what they read.",
+        ],
+    },
+    Section {
+        title: "Limits",
+        text: &[
+            "A table has 2 to 64 pivots, a bucket at most 512 entries, and a key or an edge at most 64 bytes. A text has at most 1,048,576 bytes, with its comments.",
+        ],
+    },
+    Section {
         title: "Exit status",
         text: &[
             "0: done. 1: refused by the library, with 'refused N: what it means' on standard error. 2: wrong usage, or a file that can't be read or written. After 1 and 2 no file is changed. A closed pipe ends the command quietly.",
@@ -181,5 +241,11 @@ pub const ABOUT: &[Section] = &[
     Section {
         title: "Environment",
         text: &["NO_COLOR, if set and not empty, turns colour off; so does TERM, if not set or dumb."],
+    },
+    Section {
+        title: "Completions",
+        text: &[
+            "'joistdenim --completions SHELL' prints what bash, zsh or fish reads to complete commands, options and files. In bash 'source <(joistdenim --completions bash)' takes it in; for zsh it is kept as _joistdenim in a folder of fpath, and for fish as joistdenim.fish in ~/.config/fish/completions.",
+        ],
     },
 ];

@@ -4,15 +4,11 @@ mod support;
 
 use std::fs;
 use std::os::unix::fs::symlink;
-use support::{ran, root, same, shell, Folder};
+use support::{document, errors, ran, root, same, shell, Folder};
 
 const COMMANDS: [&str; 8] = [
     "list", "table", "show", "cut", "insert", "join", "check", "bucket",
 ];
-
-fn document(path: &str) -> String {
-    fs::read_to_string(root().join(path)).expect(path)
-}
 
 /// The texts between lines of three back quotes.
 fn blocks(document: &str) -> Vec<String> {
@@ -113,7 +109,7 @@ fn examples_of_help_run() {
 fn lines_of_the_document_run() {
     let blocks = blocks(&document("docs/COMMAND.md"));
     let shown: Vec<&String> = blocks.iter().filter(has_commands).collect();
-    assert_eq!(shown.len(), 5);
+    assert_eq!(shown.len(), 6);
     shown.into_iter().for_each(|block| run(block));
 }
 
@@ -158,7 +154,54 @@ fn the_manual_page_is_what_is_printed() {
     for name in COMMANDS {
         assert!(page.contains(&format!("\n.SS joistdenim {name} ")));
     }
-    for section in ["NAME", "SYNOPSIS", "COMMANDS", "EXIT STATUS", "ENVIRONMENT"] {
+    for section in [
+        "NAME",
+        "SYNOPSIS",
+        "DESCRIPTION",
+        "COMMANDS",
+        "LIMITS",
+        "EXIT STATUS",
+        "ENVIRONMENT",
+        "SEE ALSO",
+    ] {
         assert!(page.contains(&format!("\n.SH {section}\n")), "{section}");
     }
+    let head = page.lines().next().expect("a head");
+    let version = env!("CARGO_PKG_VERSION");
+    let [day, source] = head
+        .strip_prefix(".TH JOISTDENIM 1 ")
+        .map(|rest| rest.split_at(rest.len().min(12)))
+        .map(Into::into)
+        .expect("a title");
+    assert!(is_day(day), "{day}");
+    assert_eq!(source, format!(" \"joistdenim {version}\""));
+}
+
+/// Whether it is a day as "2026-11-17", in quotation marks.
+fn is_day(text: &str) -> bool {
+    let digits = text.replace(|c: char| c.is_ascii_digit(), "9");
+    digits == "\"9999-99-99\""
+}
+
+/// The manual page as it is read: no character that a person would type is printed as another one.
+#[test]
+fn the_manual_page_is_read_as_it_was_written() {
+    let page = root().join("docs/joistdenim.1");
+    let line = format!("groff -man -Tutf8 -ww -P-cbou {}", page.display());
+    let printed = shell(&line, Folder::new().path());
+    if printed.status.code() == Some(127) {
+        return eprintln!("not tried, as groff isn't here: how the manual page is read");
+    }
+    assert_eq!(errors(&printed), "");
+    let text = String::from_utf8(printed.stdout).expect("text");
+    for part in [
+        "^^ replaced",
+        "'joistdenim table'",
+        "--text",
+        "list -\n",
+        "~/.config/fish",
+    ] {
+        assert!(text.contains(part), "{part}");
+    }
+    assert!(text.is_ascii());
 }

@@ -3,8 +3,10 @@
 mod support;
 
 use std::fs;
-use std::os::unix::fs::{symlink, PermissionsExt};
-use support::{errors, failed, folder, quiet, shell, table, LIST_OF_T, SHORT_T};
+use std::os::unix::fs::{chown, symlink, MetadataExt, PermissionsExt};
+use std::os::unix::process::CommandExt;
+use std::process::{Command, Output};
+use support::{errors, failed, folder, quiet, shell, table, Folder, LIST_OF_T, SHORT_T};
 
 #[test]
 fn a_result_goes_into_a_file() {
@@ -102,11 +104,7 @@ fn on_a_full_disk_the_file_is_as_it_was() {
     let full = "trap '' XFSZ; ulimit -f 1; joistdenim cut right large.table 410000 -o";
     for name in ["old", "new"] {
         let written = shell(&format!("{full} {name}"), folder.path());
-        failed(
-            &written,
-            2,
-            &format!("joistdenim: {name}: File too large (os error 27)"),
-        );
+        failed(&written, 2, &format!("joistdenim: {name}: File too large"));
     }
     assert_eq!(
         fs::read(folder.at("old")).expect("it is there"),
@@ -115,10 +113,91 @@ fn on_a_full_disk_the_file_is_as_it_was() {
     assert_eq!(folder.names(), before);
 }
 
+/// Somebody who isn't root, for whom all is allowed.
+const SOMEBODY: u32 = 65534;
+
+/// A folder that everybody may write to, with the command in it, which all may run there. The copy
+/// is made by a process of its own: none that begins meanwhile may keep it open for writing.
+fn open_folder() -> Folder {
+    let folder = folder();
+    let line = "cp $(command -v joistdenim) . && chmod a+rx joistdenim && chmod a+r *.table && chmod 777 .";
+    quiet(&shell(line, folder.path()));
+    folder
+}
+
+fn is_root(folder: &Folder) -> bool {
+    fs::metadata(folder.path()).expect("the folder").uid() == 0
+}
+
+/// A file of this text and mode. It is somebody's who runs the command, or root's.
+fn old_file(folder: &Folder, mode: u32, is_others: bool) {
+    let old = folder.with("old", "as it was");
+    fs::set_permissions(&old, fs::Permissions::from_mode(mode)).expect("mode");
+    if is_root(folder) && !is_others {
+        chown(&old, Some(SOMEBODY), Some(SOMEBODY)).expect("root gives it away");
+    }
+}
+
+/// Lists T into that file, as somebody.
+fn list_as_somebody(folder: &Folder) -> Output {
+    let mut command = Command::new(folder.at("joistdenim"));
+    command.args(["list", "t.table", "-o", "old"]);
+    if is_root(folder) {
+        command.uid(SOMEBODY).gid(SOMEBODY);
+    }
+    let ran = command.current_dir(folder.path()).output();
+    ran.expect("somebody may run it")
+}
+
+#[test]
+fn a_file_that_may_not_be_written_isnt_replaced() {
+    let folder = open_folder();
+    let names = ["joistdenim", "large.table", "old", "t.table"];
+    let line = "joistdenim: old: Permission denied, so it isn't replaced: give -o another file";
+    // Only root can make another's file.
+    for (mode, is_others) in [(0o444, false), (0o644, true), (0o664, true)] {
+        if is_others && !is_root(&folder) {
+            eprintln!("not tried, as it needs root: a file of another's with mode {mode:o}");
+            continue;
+        }
+        old_file(&folder, mode, is_others);
+        failed(&list_as_somebody(&folder), 2, line);
+        assert_eq!(fs::read(folder.at("old")).expect("it"), b"as it was");
+        assert_eq!(folder.names(), names);
+        fs::remove_file(folder.at("old")).expect("the folder is open");
+    }
+}
+
+#[test]
+fn a_folder_that_may_not_be_written_gets_no_file() {
+    let folder = open_folder();
+    old_file(&folder, 0o666, false);
+    let before = folder.names();
+    quiet(&shell("chmod 555 .", folder.path()));
+    let line = "joistdenim: old: no file may be made in its folder: give -o another file";
+    failed(&list_as_somebody(&folder), 2, line);
+    assert_eq!(fs::read(folder.at("old")).expect("it"), b"as it was");
+    assert_eq!(folder.names(), before);
+    quiet(&shell("chmod 777 .", folder.path()));
+}
+
+#[test]
+fn a_file_that_may_be_written_is_replaced() {
+    let folder = open_folder();
+    for (mode, is_others) in [(0o200, false), (0o600, false), (0o666, true)] {
+        old_file(&folder, mode, is_others);
+        quiet(&list_as_somebody(&folder));
+        quiet(&shell("chmod u+r old", folder.path()));
+        let written = fs::read(folder.at("old")).expect("the list");
+        assert_eq!(written, LIST_OF_T.as_bytes());
+        fs::remove_file(folder.at("old")).expect("the folder is open");
+    }
+}
+
 #[test]
 fn files_that_cant_be_read() {
     let folder = folder();
-    let missing = "No such file or directory (os error 2)";
+    let missing = "No such file or directory";
     for arguments in [
         "list none",
         "table none",
@@ -140,7 +219,7 @@ fn files_that_cant_be_read() {
     }
     let escape = shell("joistdenim list $'\\e[31mnone'", folder.path());
     failed(&escape, 2, &format!("joistdenim: ?[31mnone: {missing}"));
-    let directory = "Is a directory (os error 21)";
+    let directory = "Is a directory";
     failed(
         &shell("joistdenim list .", folder.path()),
         2,
@@ -168,12 +247,12 @@ fn files_that_cant_be_written() {
     failed(
         &cut("none/t"),
         2,
-        "joistdenim: none/t: No such file or directory (os error 2)",
+        "joistdenim: none/t: No such file or directory",
     );
     failed(
         &cut("t.table/t"),
         2,
-        "joistdenim: t.table/t: Not a directory (os error 20)",
+        "joistdenim: t.table/t: Not a directory",
     );
     failed(
         &cut("."),

@@ -3,12 +3,12 @@
 mod support;
 
 use std::fs;
-use support::{failed, folder, quiet, shell, Folder};
+use support::{failed, folder, quiet, same, shell, Folder};
 
 #[test]
 fn a_full_standard_output_is_told() {
     let folder = folder();
-    let line = "joistdenim: standard output: No space left on device (os error 28)";
+    let line = "joistdenim: standard output: No space left on device";
     for arguments in [
         "list t.table",
         "cut left t.table 4131",
@@ -30,8 +30,25 @@ fn standard_output_that_cant_be_written_is_told() {
     failed(
         &written,
         2,
-        "joistdenim: standard output: Bad file descriptor (os error 9)",
+        "joistdenim: standard output: Bad file descriptor",
     );
+}
+
+/// Both streams are one file here, as on a terminal.
+#[test]
+fn check_answers_in_the_order_of_its_arguments() {
+    let folder = folder();
+    folder.with("bad.table", "4130 43\n");
+    let line = "joistdenim check t.table none large.table bad.table t.table 2>&1";
+    let checked = shell(line, folder.path());
+    let lines = "t.table: well formed, 3 pivots, 2 slots, 1 with an edge
+joistdenim: none: No such file or directory
+large.table: well formed, 64 pivots, 63 slots, 0 with an edge
+refused 1: bad.table is text; 'joistdenim table' makes a table of a list
+t.table: well formed, 3 pivots, 2 slots, 1 with an edge
+";
+    same(&String::from_utf8(checked.stdout).expect("text"), lines);
+    assert_eq!(checked.status.code(), Some(2));
 }
 
 #[test]

@@ -255,7 +255,7 @@ fn tables_are_checked_each() {
     let well = format!("{good}: well formed, 3 pivots, 2 slots, 1 with an edge\n");
     let of_all = format!("{all}: well formed, 5 pivots, 4 slots, 1 with an edge, all keys\n");
     let refused = format!("refused 3: {bad}, {NOT_ABOVE}\n");
-    let missing = format!("joistdenim: {none}: No such file or directory (os error 2)\n");
+    let missing = format!("joistdenim: {none}: No such file or directory\n");
     let checked = ran(&format!("check {good} {all}"), "");
     assert_eq!(checked.text(), format!("{well}{of_all}"));
     let checked = ran(&format!("check {bad} {good}"), "");

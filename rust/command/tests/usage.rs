@@ -1,7 +1,9 @@
 //! How the command is called: help, version, wrong usage, and keys that are too long.
 mod support;
 
-use support::{ran, ran_words, SHORT_T};
+use joistdenim::{MAX_ENTRIES, MAX_LEN, MAX_PIVOTS, MIN_PIVOTS};
+use std::fs;
+use support::{ran, ran_words, Folder, LIST_OF_T, SHORT_T};
 
 const COMMANDS: [&str; 8] = [
     "list", "table", "show", "cut", "insert", "join", "check", "bucket",
@@ -32,6 +34,16 @@ fn help_names_every_command_and_has_its_example() {
 }
 
 #[test]
+fn help_has_the_limits() {
+    let all = ran("--help", "").text().replace("\n  ", " ");
+    let limits = format!(
+        "A table has {MIN_PIVOTS} to {MAX_PIVOTS} pivots, a bucket at most {MAX_ENTRIES} entries, \
+         and a key or an edge at most {MAX_LEN} bytes."
+    );
+    assert!(all.contains(&limits));
+}
+
+#[test]
 fn the_version_is_the_crates() {
     let line = format!("joistdenim {}\n", env!("CARGO_PKG_VERSION"));
     assert_eq!(ran("--version", "").text(), line);
@@ -41,9 +53,12 @@ fn the_version_is_the_crates() {
 #[test]
 fn wrong_commands_and_options() {
     wrong("", "a command is missing", "--help");
-    wrong("lst", "there is no command \"lst\"", "--help");
-    wrong("help lst", "there is no command \"lst\"", "--help");
-    wrong("--lst", "there is no command \"--lst\"", "--help");
+    for word in ["rename", "split", "--lst", "", "-", "x"] {
+        let line =
+            format!("joistdenim: there is no command {word:?}; 'joistdenim --help' tells more");
+        ran_words([word.into()].into_iter(), "", false, false).failed(2, &line);
+    }
+    wrong("help rename", "there is no command \"rename\"", "--help");
     for name in COMMANDS {
         let help = format!("{name} --help");
         wrong(
@@ -57,13 +72,84 @@ fn wrong_commands_and_options() {
         let text = format!("{option} stands alone");
         wrong(&format!("{option} list"), &text, "--help");
     }
-    wrong("list t -o a -o b", "-o is given twice", "list --help");
     wrong("show -o t", "there is no option \"-o\"", "show --help");
+    wrong("show -ot", "there is no option \"-ot\"", "show --help");
     wrong("list --tsv", "there is no option \"--tsv\"", "list --help");
-    wrong("list t -o", "-o needs a file", "list --help");
-    let words = ["list", "-o FILE"].map(Into::into).into_iter();
-    let line = "joistdenim: there is no option \"-o FILE\"; 'joistdenim list --help' tells more";
+}
+
+/// A mistyped name, and the one that is nearest.
+#[track_caller]
+fn meant(arguments: &str, what: &str, word: &str, name: &str, help: &str) {
+    let text = format!("there is no {what} {word:?}; did you mean {name}?");
+    let line = format!("joistdenim: {text} 'joistdenim {help}' tells more");
+    ran(arguments, "").failed(2, &line);
+}
+
+#[test]
+fn a_mistyped_name_is_told_with_the_nearest() {
+    for (word, name) in [
+        ("lsit", "list"),
+        ("lst", "list"),
+        ("LIST", "list"),
+        ("tabel", "table"),
+        ("tablle", "table"),
+        ("shwo", "show"),
+        ("shaw", "show"),
+        ("ct", "cut"),
+        ("ins", "insert"),
+        ("jion", "join"),
+        ("chekc", "check"),
+        ("buckets", "bucket"),
+        ("--hlep", "--help"),
+        ("--completion", "--completions"),
+    ] {
+        meant(word, "command", word, name, "--help");
+        meant(&format!("help {word}"), "command", word, name, "--help");
+    }
+    for (command, word, name) in [
+        ("show", "--txt", "--text"),
+        ("show", "--TSV", "--tsv"),
+        ("cut", "-text", "--text"),
+        ("bucket", "--byte", "--bytes"),
+        ("bucket", "--repotr", "--report"),
+        ("list", "--out", "--output"),
+        ("list", "--outptu=a", "--output"),
+        ("list", "-O", "-o"),
+        ("list", "--hlep", "--help"),
+    ] {
+        let help = format!("{command} --help");
+        meant(&format!("{command} {word}"), "option", word, name, &help);
+    }
+}
+
+#[test]
+fn the_output_is_given_in_four_ways() {
+    let folder = Folder::new();
+    let t = folder.with("t.table", support::table(SHORT_T));
+    for (number, option) in ["-o ", "-o", "--output ", "--output="]
+        .into_iter()
+        .enumerate()
+    {
+        let file = folder.at(&format!("list{number}"));
+        for arguments in [format!("{option}{file} {t}"), format!("{t} {option}{file}")] {
+            assert_eq!(ran(&format!("list {arguments}"), "").text(), "");
+            let listed = fs::read_to_string(&file).expect("the list");
+            assert_eq!(listed, LIST_OF_T);
+            fs::remove_file(&file).expect("it is there");
+        }
+        let to_output = ran(&format!("list {t} {option}-"), "").text();
+        assert_eq!(to_output, LIST_OF_T);
+        let twice = format!("list t {option}a -ob");
+        wrong(&twice, "-o is given twice", "list --help");
+    }
+    for arguments in ["list t -o", "list t --output", "list t --output="] {
+        wrong(arguments, "-o needs a file", "list --help");
+    }
+    let words = ["list", "t", "-o", ""].map(Into::into).into_iter();
+    let line = "joistdenim: -o needs a file; 'joistdenim list --help' tells more";
     ran_words(words, "", false, false).failed(2, line);
+    let text = "no = stands behind -o: write -oFILE or --output=FILE";
+    wrong("list t -o=a", text, "list --help");
 }
 
 #[test]

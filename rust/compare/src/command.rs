@@ -68,6 +68,7 @@ pub fn command(arguments: &[impl AsRef<OsStr>], mut input: &[u8]) -> Ran {
         terminal: false,
         colour: false,
         errors_terminal: false,
+        files: Default::default(),
     };
     let arguments = arguments.iter().map(|word| word.as_ref().to_os_string());
     let status = run(arguments, &mut streams);

@@ -14,7 +14,7 @@ const BYTE_ORDER_MARK: &[u8] = "\u{feff}".as_bytes();
 pub fn next(streams: &mut Streams) -> Result<Option<Vec<u8>>, Failure> {
     let mut line = vec![];
     let input = &mut streams.input;
-    let unread = |error| Failure::File(format!("standard input: {error}"));
+    let unread = |error| Failure::file("standard input", &error);
     let mut head = input.take(MOST as u64 + 1);
     let read = head.read_until(b'\n', &mut line).map_err(unread)?;
     if line.pop_if(|last| *last == b'\n').is_none() && line.len() > MOST {

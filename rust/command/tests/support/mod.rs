@@ -56,6 +56,7 @@ pub fn ran_words(
             terminal,
             colour,
             errors_terminal: terminal,
+            files: Default::default(),
         },
     );
     let errors = String::from_utf8(errors).expect("messages are text");
@@ -160,6 +161,11 @@ impl Drop for Folder {
 pub fn root() -> PathBuf {
     let root = Path::new(env!("CARGO_MANIFEST_DIR")).join("../..");
     root.canonicalize().expect("the root")
+}
+
+/// The text of a file of the repository.
+pub fn document(path: &str) -> String {
+    fs::read_to_string(root().join(path)).expect(path)
 }
 
 /// The command as a program.
