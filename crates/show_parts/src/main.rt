@@ -76,6 +76,15 @@ fn show_slot(a: &[u8], b: &[u8], slot: usize) {
     print_part(indexes::slot_entries_part(&pivots, &bucket, &index, slot));
 }
 
+// The first n bytes, as far as there are so many.
+fn print_head(bytes: &[u8], n: usize) {
+    if n <= bytes.len() {
+        print_part(&bytes[..n]);
+    } else {
+        print_part(bytes);
+    }
+}
+
 // What a pair makes of a key.
 fn show_applied(pair: PrefixSet, key: &[u8]) {
     let mut dest = [0u8; MAX_LEN];
@@ -84,7 +93,7 @@ fn show_applied(pair: PrefixSet, key: &[u8]) {
         io::write_all(STDOUT_FILENO, b"refused\n");
         return;
     };
-    print_part(&dest[..scan::least(n, MAX_LEN)]);
+    print_head(&dest, n);
 }
 
 fn main() {
