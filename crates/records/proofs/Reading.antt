@@ -34,13 +34,13 @@ module _ (n : ℕ) where
   unfolding fieldReading
   way-none e = rw e
 
-  pub way-max : n ≡ 65535 → Max ≡ fieldReading n
+  pub way-max : 65534 ≤ n → (n ≡ 65534 → ⊥) → n < 65536 → Max ≡ fieldReading n
   unfolding fieldReading
-  way-max e = rw e
+  way-max h p b = let e : n ≡ 65535 = omega (arith, p) in rw e
 
-  pub way-other : 65 ≤ n → (n ≡ 65534 → ⊥) → (n ≡ 65535 → ⊥) → Malformed ≡ fieldReading n
+  pub way-other : 65 ≤ n → n < 65534 → Malformed ≡ fieldReading n
   unfolding fieldReading
-  way-other h p q = rw (lt-leb n maxLen (omega arith), ne-eqb n 65534 p, ne-eqb n 65535 q)
+  way-other h k = rw (lt-leb n maxLen (omega arith), ne-eqb n 65534 (λ e. omega arith), ne-eqb n 65535 (λ e. omega arith))
 
 pub ruleset ways = (way-key, way-none, way-max, way-other)
 

@@ -26,15 +26,26 @@ pub fn length_field(rec: &[u8]) -> u16
     wide16(scan::byte_at(rec, 0)) * 256 + wide16(scan::byte_at(rec, 1))
 }
 
-// The four ways in which a length field is read.
+// Which of the two marks a length field is.
+fn mark(n: u16) -> Reading
+    requires { ⌜ 65534 ≤ n ⌝ }
+    ensures { λ r. ⌜ r ≡ fieldReading n ⌝ }
+{
+    match n {
+        65534 => Reading::NoEdge,
+        _ => Reading::Max,
+    }
+}
+
+// The four ways in which a length field is read. The marks stand in one arm: the compiler tests ranges in their order, a
+// key's first, but single numbers before all ranges.
 pub fn field_reading(n: u16) -> Reading
     ensures { λ r. ⌜ r ≡ fieldReading n ⌝ }
 {
     match n {
         0..=64 => Reading::Key(wide(n)),
         65..=65533 => Reading::Malformed,
-        65534 => Reading::NoEdge,
-        65535 => Reading::Max,
+        65534..=65535 => mark(n),
     }
 }
 

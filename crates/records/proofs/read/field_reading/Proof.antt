@@ -9,6 +9,9 @@ ruleset rules = (needs, ways)
 wide-requires : tie.Need-wide-requires
 wide-requires c κs = search rules
 
+mark-requires : tie.Need-mark-requires
+mark-requires c κs = search rules
+
 returns : tie.Need-returns
 returns c = search rules
 
@@ -18,8 +21,5 @@ returns-2 c = search rules
 returns-3 : tie.Need-returns-3
 returns-3 c = search rules
 
-returns-4 : tie.Need-returns-4
-returns-4 c = search rules
-
 pub field-reading-spec : {M : Type 1} → statement M
-field-reading-spec = tie.close (tie.spec wide-requires returns returns-2 returns-3 returns-4)
+field-reading-spec = tie.close (tie.spec wide-requires mark-requires returns returns-2 returns-3)
