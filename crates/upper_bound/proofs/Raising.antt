@@ -2,7 +2,7 @@
 use mathlib.Core.Path.{_≡_, refl, sym, _∙_}
 use mathlib.Core.Bool.{Bool, true, false, cond, true≢false, false≢true}
 use mathlib.Core.List.{List, [], _∷_, _++_}
-use Prim.Native.Nat.{ℕ, zero, suc, _+_, _≤_, _<_}
+use Prim.Native.Nat.{ℕ, zero, suc, _+_, _%_, _≤_, _<_}
 use native.Mathlib.Numerals.{add-one}
 use native.Mathlib.Omega.{arith}
 use borrow.Author.Tests.{eqb-false, le-leb, le-ltb}
@@ -51,6 +51,13 @@ module _ (p : Key) (j : ℕ) (small : length p ≤ 64) (inside : j < length p) w
       let l : length (take j p) ≡ j = length-take-le j p (omega arith) in
       let s : length (take j p ++ ((getD p j 0 + 1) ∷ [])) ≡ j + 1 = rw (length-append, l) in
       rw (h, e, part-is, set-last (take j p) (getD p j 0) (getD p j 0 + 1) (j + 1) j l, s)
+
+  -- a sum that wraps at FF raises any other byte alike
+  pub round-stored : ((i : ℕ) → Fits w8 (getD p i 0)) → (getD p j 0 ≡ 255 → ⊥) → (m d w : List ℕ) → m ≡ recordOf (j + 1) (clipped (take (j + 1) p))
+      → w ≡ into (set m (2 + j) (getD p j 0 % 255 + 1)) d → w ≡ into (encode (raisedAt p j)) d
+  round-stored f n m d w e h =
+      let u : getD p j 0 % 255 + 1 ≡ getD p j 0 + 1 = omega (arith, f j) in
+      raised-stored m d w e (rw u at h)
 
 -- a byte that isn't FF can be raised
 pub raised-fits : (p : Key) (j : ℕ) → ((i : ℕ) → Fits w8 (getD p i 0)) → (getD p j 0 ≡ 255 → ⊥) → Fits w8 (getD p j 0 + 1)

@@ -1,5 +1,5 @@
 -- `upper_bound::put_raised` meets its contract.
-use Rattle.upper_bound.proofs.Raising.{part-counts, raised-fits, raised-stored}
+use Rattle.upper_bound.proofs.Raising.{part-counts, raised-fits, raised-stored, round-stored}
 use borrow.Author.Needs.{needs}
 use Rattle.upper_bound.proofs.put_raised.Statement.{statement}
 use Rattle.upper_bound.proofs.put_raised.Tie as tie
@@ -20,7 +20,7 @@ shared-slice-read-made : tie.Need-shared-slice-read-made
 shared-slice-read-made c = search needs
 
 add-made : tie.Need-add-made
-add-made c = search raised-fits
+add-made c = search (needs, raised-fits)
 
 add-made-2 : tie.Need-add-made-2
 add-made-2 c = search needs
@@ -35,7 +35,7 @@ same-length : tie.Need-same-length
 same-length c = search needs
 
 returns : tie.Need-returns
-returns c = search raised-stored
+returns c = search (raised-stored, round-stored)
 
 pub put-raised-spec : {M : Type 1} → statement M
 put-raised-spec =
