@@ -54,6 +54,17 @@ pub enum Fault {
     Number,
 }
 
+const NO_SIDE: &str =
+    "before > stands what is replaced, behind it the edge, which is . if it is empty";
+const REPLACED_BY_NONE: &str =
+    "without an edge nothing is replaced: write - alone, or . for the empty edge";
+const REPLACED_IN_LIST: &str =
+    "in a list the field shared says what is replaced: write the edge alone";
+const END_WITH_EDGE: &str =
+    "the last line is the end of the table: a key or max alone, without an edge";
+const NO_END: &str = "the last line is missing, with the end of the table: a key or max alone";
+const AFTER_END: &str = "the line before has no edge and is the end, so no line follows";
+
 impl ListError {
     /// The line, from 1.
     pub fn line(&self) -> usize {
@@ -86,16 +97,9 @@ impl ListError {
             }
             Fault::ThirdField => "a line has a left bound and an edge, or the end alone".into(),
             Fault::Parted => "no space stands beside >: write it as 41>43".into(),
-            Fault::NoSide => {
-                "before > stands what is replaced, behind it the edge, which is . if it is empty"
-                    .into()
-            }
-            Fault::ReplacedByNone => {
-                "without an edge nothing is replaced: write - alone, or . for the empty edge".into()
-            }
-            Fault::ReplacedInList => {
-                "in a list the field shared says what is replaced: write the edge alone".into()
-            }
+            Fault::NoSide => NO_SIDE.into(),
+            Fault::ReplacedByNone => REPLACED_BY_NONE.into(),
+            Fault::ReplacedInList => REPLACED_IN_LIST.into(),
             Fault::Slot(number) => format!("this is slot {number}"),
             Fault::MaxLeft => "max can only be the end of the table".into(),
             Fault::Right(left) => {
@@ -104,15 +108,9 @@ impl ListError {
             Fault::Shared(shared, edge) => {
                 format!("what the keys of this slot share is {shared}{edge}")
             }
-            Fault::AfterEnd => {
-                "the line before has no edge and is the end, so no line follows".into()
-            }
-            Fault::EndWithEdge => {
-                "the last line is the end of the table: a key or max alone, without an edge".into()
-            }
-            Fault::NoEnd => {
-                "the last line is missing, with the end of the table: a key or max alone".into()
-            }
+            Fault::AfterEnd => AFTER_END.into(),
+            Fault::EndWithEdge => END_WITH_EDGE.into(),
+            Fault::NoEnd => NO_END.into(),
             Fault::Entry(count) => {
                 format!("a line of a bucket has 2 fields, a key and a number, and this has {count}")
             }
