@@ -3,6 +3,7 @@ mod words;
 
 use words::begins_by_words;
 use words::big_at;
+use words::equal_half;
 use words::equal_words;
 use words::zero_bytes;
 use words::zero_end;
@@ -39,7 +40,7 @@ pub fn common_run(a: &[u8], b: &[u8]) -> usize
     ensures { λ r. ⌜ (r ≤ length (now (a .entry))) × (r ≤ length (now (b .entry))) ⌝ }
 {
     let n = least(a.len(), b.len());
-    let mut i = equal_words(a, b, n);
+    let mut i = equal_half(a, b, n, equal_words(a, b, n));
     while i < n {
         if a[i] != b[i] {
             return i;

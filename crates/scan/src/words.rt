@@ -61,6 +61,21 @@ pub(crate) fn equal_words(a: &[u8], b: &[u8], n: usize) -> usize
     i
 }
 
+// The place i, or four bytes on where these agree.
+pub(crate) fn equal_half(a: &[u8], b: &[u8], n: usize, i: usize) -> usize
+    requires { ⌜ (n ≤ length (now a)) × (n ≤ length (now b)) × (i ≤ n) ⌝ }
+    ensures { λ r. ⌜ r ≤ n ⌝ }
+    ensures { λ r. ⌜ r + length (commonRun (drop r (now (a .entry))) (drop r (now (b .entry)))) ≡ i + length (commonRun (drop i (now (a .entry))) (drop i (now (b .entry)))) ⌝ }
+{
+    if n - i < 4 {
+        return i;
+    }
+    if half_at(a, i) != half_at(b, i) {
+        return i;
+    }
+    i + 4
+}
+
 // Whether the bytes from a place on are zero, by words. The last word ends where they do, and may look again at bytes of
 // the one before it.
 pub(crate) fn zero_words(a: &[u8], from: usize) -> bool

@@ -1,7 +1,7 @@
 -- `scan::common_run` meets its contract.
 use Rattle.model.specs.keys.Key.{commonRun}
 use lib.ListN.{length, drop}
-use mathlib.Core.Path.{_≡_}
+use mathlib.Core.Path.{_≡_, _∙_}
 use Prim.Native.Nat.{ℕ, _+_, _-_, _≤_}
 use borrow.Author.Needs.{needs}
 use Rattle.scan.proofs.Scan.{common-turn, common-differ, common-end}
@@ -22,8 +22,11 @@ least-requires c κs = search rules
 equal-words-requires : tie.Need-equal-words-requires Inv-loop μ-loop
 equal-words-requires c κs = search rules
 
+equal-half-requires : tie.Need-equal-half-requires Inv-loop μ-loop
+equal-half-requires c κs = search rules
+
 loop-holds : tie.Need-loop-holds Inv-loop μ-loop
-loop-holds c = (search needs, search rules)
+loop-holds c = (search needs, c .equal-half .ensures .1 ∙ c .before .equal-words .ensures .1)
 
 shared-slice-read-if1 : tie.Need-shared-slice-read-if1 Inv-loop μ-loop
 shared-slice-read-if1 c = search rules
@@ -54,6 +57,7 @@ common-run-spec =
     μ-loop
     least-requires
     equal-words-requires
+    equal-half-requires
     loop-holds
     shared-slice-read-if1
     shared-slice-read-if1-2
