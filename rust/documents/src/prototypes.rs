@@ -61,11 +61,8 @@ impl Language {
         if self != Language::C {
             return code;
         }
-        let kept = |line| match str::starts_with(line, '#') {
-            true => "",
-            false => line,
-        };
-        code.lines().map(kept).collect::<Vec<_>>().join("\n")
+        let lines: Vec<&str> = code.lines().map(unless_directive).collect();
+        lines.join("\n")
     }
 
     /// The functions that a file's code declares; for one that isn't understood, its line.
@@ -75,9 +72,8 @@ impl Language {
             Language::C | Language::Rust => declared(code),
         };
         let read = |piece: Range<usize>| {
-            let blank = code[piece.clone()].len() - code[piece.clone()].trim_start().len();
-            let unread = line(code, piece.start + blank);
-            self.prototype(code, piece).ok_or(unread)
+            let begins = piece.end - code[piece.clone()].trim_start().len();
+            self.prototype(code, piece).ok_or(line(code, begins))
         };
         pieces.into_iter().map(read).collect()
     }
@@ -121,19 +117,30 @@ fn without_comments(text: &str) -> String {
     let mut code = String::new();
     let mut rest = text;
     loop {
-        let begins = [rest.find("//"), rest.find("/*")];
-        let Some(at) = begins.into_iter().flatten().min() else {
+        let marks = [rest.find("//"), rest.find("/*")];
+        let Some(at) = marks.into_iter().flatten().min() else {
             return code + rest;
         };
-        let (comment, mark) = match rest[at..].starts_with("//") {
-            true => (rest[at..].find('\n'), 0),
-            false => (rest[at..].find("*/"), 2),
+        let comment = &rest[at + 2..];
+        let length = if rest[at..].starts_with("//") {
+            comment.find('\n')
+        } else {
+            comment.find("*/").map(|length| length + 2)
         };
-        let end = comment.map_or(rest.len(), |length| at + length + mark);
+        let (comment, after) = comment.split_at(length.unwrap_or(comment.len()));
         code.push_str(&rest[..at]);
         code.push(' ');
-        code.extend(rest[at..end].chars().filter(|c| *c == '\n'));
-        rest = &rest[end..];
+        code.extend(comment.chars().filter(|c| *c == '\n'));
+        rest = after;
+    }
+}
+
+/// A line of C, or nothing in place of one for the preprocessor.
+fn unless_directive(line: &str) -> &str {
+    if line.starts_with('#') {
+        ""
+    } else {
+        line
     }
 }
 

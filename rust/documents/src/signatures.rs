@@ -65,7 +65,7 @@ fn declared<'a>(
                 Ok(prototype) => {
                     let name = prototype.name.text;
                     let twice = found.insert(name, signature(language, path, &prototype));
-                    twice.map(|_| (prototype.name.line, format!("{name} is declared before")))
+                    twice.map(|_| (prototype.name.line, format!("{name} is declared twice")))
                 }
             };
             if let Some((line, what)) = fault {

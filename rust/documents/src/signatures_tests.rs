@@ -195,10 +195,27 @@ fn another_name() {
 }
 
 #[test]
+fn of_two_answers_the_first_has_its_own_name() {
+    let changes = [
+        ("place: u64, value", "value: &mut u64, more"),
+        (
+            "uint64_t place, uint64_t *length",
+            "uint64_t *place, uint64_t *more",
+        ),
+        ("place: u64, length", "place: *mut u64, more"),
+    ];
+    let texts = [0, 1, 2].map(|i| FILES[i].1.replace(changes[i].0, changes[i].1));
+    let files = [0, 1, 2].map(|i| (FILES[i].0, texts[i].as_str()));
+    let first =
+        "parameter 2 is `place`, an answer u64, and not `value`, an answer u64, as at crates";
+    fails(&check(&Repository::of(&files)), &[first]);
+}
+
+#[test]
 fn a_second_declaration() {
     let second = "extern \"C\" {\n    pub fn jd_get_key(pivots: *const u8, pivots_len: usize, place: u64, length: *mut u64) -> u32;\n}\n";
     let files = [&FILES[..], &[("rust/compare/src/main.rs", second)]].concat();
-    let told = "rust/joistdenim/src/raw.rs:25: jd_get_key is declared before";
+    let told = "rust/joistdenim/src/raw.rs:25: jd_get_key is declared twice";
     fails(&check(&Repository::of(&files)), &[told]);
 }
 
