@@ -3,7 +3,7 @@ use crate::believed::{check, DOCUMENT};
 use crate::believed_sample::{BOUNDARY, CLAIM, CODE, FILES, KEY, KEY_CALLS, LAWS};
 use crate::repository::Repository;
 use crate::roots::CALLS;
-use crate::sample::replaced;
+use crate::sample::{fails, replaced};
 
 /// That change is told, by these words and no others.
 #[track_caller]
@@ -13,12 +13,7 @@ fn told(path: &str, from: &str, to: &str, wanted: &[&str]) {
 
 #[track_caller]
 fn all_told(repository: &Repository, wanted: &[&str]) {
-    let failures = check(repository).failures;
-    assert_eq!(failures.len(), wanted.len(), "{failures:#?}");
-    for words in wanted {
-        let is_there = |failure: &String| failure.contains(words);
-        assert!(failures.iter().any(is_there), "{words}: {failures:#?}");
-    }
+    fails(&check(repository), wanted);
 }
 
 /// The sample with a part of the document moved to another place of it.

@@ -67,7 +67,7 @@ fn keyword(text: &str) -> Option<&str> {
 }
 
 /// Where the brace at `open` is closed, or the end.
-fn closing(text: &str, open: usize) -> usize {
+pub fn closing(text: &str, open: usize) -> usize {
     let mut depth = 0;
     for (i, c) in text[open..].char_indices() {
         match c {

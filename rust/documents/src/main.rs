@@ -1,7 +1,8 @@
 //! Checks the documents, from the root of the repository: `documents contracts` the table of the source's contracts,
 //! `documents names` the names in code style and the links, `documents believed` the list of what must be believed; and
-//! what they say of the code, `documents requires`: no public function has one. A line for each failure, then
-//! 'N passed, M failed'; the status is 1 where something failed.
+//! what they say of the code, `documents requires`: no public function has one. `documents signatures` holds the boundary,
+//! the headers and the Rust declarations against each other. A line for each failure, then 'N passed, M failed'; the
+//! status is 1 where something failed.
 mod believed;
 #[cfg(test)]
 mod believed_sample;
@@ -18,12 +19,14 @@ mod evidence;
 #[cfg(test)]
 mod evidence_tests;
 mod exceptions;
+mod forms;
 mod functions;
 mod known;
 mod links;
 mod names;
 #[cfg(test)]
 mod names_tests;
+mod prototypes;
 mod refusals;
 mod report;
 mod repository;
@@ -33,6 +36,11 @@ mod rows;
 #[cfg(test)]
 mod sample;
 mod scope;
+mod signatures;
+#[cfg(test)]
+mod signatures_sample;
+#[cfg(test)]
+mod signatures_tests;
 mod source;
 #[cfg(test)]
 mod source_tests;
@@ -61,8 +69,9 @@ fn main() -> ExitCode {
         "names" => names::check(&repository, EXCEPTIONS).and(links::check(&repository)),
         "believed" => believed::check(&repository),
         "requires" => requires::check(&repository),
+        "signatures" => signatures::check(&repository),
         _ => {
-            eprintln!("documents contracts | names | believed | requires");
+            eprintln!("documents contracts | names | believed | requires | signatures");
             return ExitCode::from(2);
         }
     };

@@ -1,4 +1,5 @@
 //! A repository small enough to read, in which everything is right, and changes of it.
+use crate::report::Report;
 use crate::repository::Repository;
 
 pub const SOURCE: &str = "docs/src/lib/Buckets/BoundedPivotsLib.i.dfy";
@@ -149,4 +150,15 @@ pub fn also(files: &[(&str, &str)]) -> Repository {
 
 pub fn unchanged() -> Repository {
     also(&[])
+}
+
+/// A failure for each of these words, and no other.
+#[track_caller]
+pub fn fails(report: &Report, wanted: &[&str]) {
+    let failures = &report.failures;
+    assert_eq!(failures.len(), wanted.len(), "{failures:#?}");
+    for words in wanted {
+        let is_there = |failure: &String| failure.contains(words);
+        assert!(failures.iter().any(is_there), "{words}: {failures:#?}");
+    }
 }

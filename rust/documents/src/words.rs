@@ -1,7 +1,7 @@
 //! Words, and those of the code.
 
 /// This crate names things that don't exist, as samples and exceptions: its words show nothing.
-const THIS_CRATE: &str = "rust/documents/";
+pub const THIS_CRATE: &str = "rust/documents/";
 
 pub fn is_code(path: &str) -> bool {
     let folder = path.split_once('/').map_or("", |(folder, _)| folder);
