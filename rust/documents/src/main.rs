@@ -1,7 +1,7 @@
 //! Checks the documents, from the root of the repository: `documents contracts` the table of the source's contracts,
 //! `documents names` the names in code style and the links, `documents believed` the list of what must be believed; and
-//! what they say of the code, `documents requires`: no public function has one. A line for each failure, then
-//! 'N passed, M failed'; the status is 1 where something failed.
+//! what they say of the code, `documents requires`: no public function has one; and `documents refusals` what lists
+//! refusals, in code and text. A line for each failure, then 'N passed, M failed'; the status is 1 where something failed.
 mod believed;
 #[cfg(test)]
 mod believed_sample;
@@ -21,9 +21,14 @@ mod exceptions;
 mod functions;
 mod known;
 mod links;
+mod listings;
+#[cfg(test)]
+mod listings_tests;
 mod names;
 #[cfg(test)]
 mod names_tests;
+mod numbering;
+mod places;
 mod refusals;
 mod report;
 mod repository;
@@ -43,6 +48,7 @@ mod theorems;
 mod words;
 
 use exceptions::EXCEPTIONS;
+use places::PLACES;
 use repository::Repository;
 use std::path::Path;
 use std::process::ExitCode;
@@ -61,8 +67,9 @@ fn main() -> ExitCode {
         "names" => names::check(&repository, EXCEPTIONS).and(links::check(&repository)),
         "believed" => believed::check(&repository),
         "requires" => requires::check(&repository),
+        "refusals" => listings::check(&repository, PLACES),
         _ => {
-            eprintln!("documents contracts | names | believed | requires");
+            eprintln!("documents contracts | names | believed | requires | refusals");
             return ExitCode::from(2);
         }
     };
