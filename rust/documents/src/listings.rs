@@ -71,10 +71,13 @@ fn lines<'a>(line: usize, rest: &'a str, to: &str) -> Said<'a> {
     let mut end = line;
     for text in rest.lines().skip(1).map(str::trim) {
         end += 1;
-        if text.is_empty() || (!to.is_empty() && text.starts_with(to)) {
+        if text.starts_with(to) && text.is_empty() == to.is_empty() {
             break;
         }
-        pieces.push((end, text));
+        let passed_over = ["//", "--"].iter().any(|mark| text.starts_with(mark));
+        if !text.is_empty() && !passed_over {
+            pieces.push((end, text));
+        }
     }
     Said { pieces, end }
 }
@@ -130,16 +133,25 @@ fn wanted(place: &Place, said: &Said, numbering: &Numbering) -> Vec<String> {
     }
 }
 
-/// A line may say more behind it, from the next word on.
 fn fits(place: &Place, piece: &str, wanted: &str) -> bool {
-    match place.says {
-        Says::Lines(_) => piece.strip_prefix(wanted).is_some_and(|more| {
-            let joined = |c: char| c.is_alphanumeric() || c == '_';
-            !(wanted.ends_with(joined) && more.starts_with(joined))
-        }),
-        Says::Count => piece.eq_ignore_ascii_case(wanted),
+    match (&place.says, wanted.split_once('*')) {
+        (Says::Lines(_), Some((head, tail))) => {
+            let rest = piece.strip_prefix(head);
+            let inside = rest.and_then(|rest| rest.strip_suffix(tail));
+            inside.is_some_and(|inside| fits_between(head, inside, tail))
+        }
+        (Says::Count, _) => piece.eq_ignore_ascii_case(wanted),
         _ => piece == wanted,
     }
+}
+
+/// What stands for a `*` is no rest of a word or number, and nothing that ends as the line does: a second refusal on the
+/// same line would.
+fn fits_between(head: &str, inside: &str, tail: &str) -> bool {
+    let in_word = |c: char| c.is_alphanumeric() || c == '_';
+    let goes_on = head.ends_with(in_word) && inside.starts_with(in_word);
+    let ends = |mark: char| inside.contains(mark);
+    !goes_on && !tail.chars().next().is_some_and(ends)
 }
 
 /// Whatever else names all of them, tells the order or says how many there are must become a place.

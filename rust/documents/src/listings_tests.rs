@@ -12,15 +12,15 @@ const TEXT: &str = "docs/SHELF.md";
 
 const SHELF: [Place; 8] = [
     place(CODE, Says::Lines("{name},"), "enum Refusal {", "}"),
-    place(HEADER, Says::Lines("{c} = {number}"), "enum jd {", "}"),
+    place(HEADER, Says::Lines("{c} = {number}*"), "enum jd {", "}"),
     place(HEADER, Says::Order, "in the order ", "."),
     place(HEADER, Says::Last, "i <= ", ";"),
     place(ROWS, Says::Names("∷"), "\nrefusals =", "[]"),
     place(ROWS, Says::Count, "oneTo", " :"),
     place(
         TEXT,
-        Says::Lines("| {number} | `{name}` |"),
-        "|---|---|",
+        Says::Lines("| {number} | `{name}` | *"),
+        "|---|---|---|",
         "",
     ),
     place(TEXT, Says::Count, "1 to ", "."),
@@ -65,11 +65,11 @@ for (i = 1; i <= JD_NOT_MEETING; i++)
         TEXT,
         "Numbers go from 1 to 3.
 
-| number | name |
-|---|---|
-| 1 | `Shape` |
-| 2 | `NoRoom` |
-| 3 | `NotMeeting` |
+| number | name | cause |
+|---|---|---|
+| 1 | `Shape` | no records |
+| 2 | `NoRoom` | too short |
+| 3 | `NotMeeting` | apart |
 
 The end.
 ",
@@ -97,14 +97,14 @@ fn one_missing() {
     change(CODE, "    NoRoom,\n", "", wanted);
     let wanted = "crates/shelf/src/lib.rt:4: `NotMeeting,` is missing";
     change(CODE, "    NotMeeting,\n", "", wanted);
-    let wanted = "include/shelf.h:8: `JD_NOT_MEETING = 3` is missing";
+    let wanted = "include/shelf.h:8: `JD_NOT_MEETING = 3*` is missing";
     change(HEADER, "    JD_NOT_MEETING = 3 /* apart */\n", "", wanted);
     let wanted = "include/shelf.h:3: `3` is expected, found `2`";
     change(HEADER, "1, 3,", "1,", wanted);
     let wanted = "crates/shelf/proofs/Rows.antt:4: `NotMeeting` is missing";
     change(ROWS, "NotMeeting ∷ ", "", wanted);
-    let wanted = "docs/SHELF.md:7: `| 3 | `NotMeeting` |` is missing";
-    change(TEXT, "| 3 | `NotMeeting` |\n", "", wanted);
+    let wanted = "docs/SHELF.md:7: `| 3 | `NotMeeting` | *` is missing";
+    change(TEXT, "| 3 | `NotMeeting` | apart |\n", "", wanted);
 }
 
 #[test]
@@ -117,19 +117,33 @@ fn one_too_many() {
     change(HEADER, "  2.", "  2, 4.", wanted);
     let wanted = "crates/shelf/proofs/Rows.antt:4: `Late` is one too many";
     change(ROWS, "[]", "Late ∷ []", wanted);
-    let wanted = "docs/SHELF.md:8: `| 4 | `Late` |` is one too many";
-    change(TEXT, "g` |\n", "g` |\n| 4 | `Late` |\n", wanted);
+    let wanted = "docs/SHELF.md:8: `| 4 | `Late` | late |` is one too many";
+    change(
+        TEXT,
+        "apart |\n",
+        "apart |\n| 4 | `Late` | late |\n",
+        wanted,
+    );
+    let wanted = "crates/shelf/src/lib.rt:3: `NoRoom,` is expected, found `NoRoom, Late,`";
+    change(CODE, "NoRoom,", "NoRoom, Late,", wanted);
+    let wanted = "crates/shelf/src/lib.rt:6: `Late,` is one too many";
+    change(CODE, "NotMeeting,\n", "NotMeeting,\n\n    Late,\n", wanted);
 }
 
 #[test]
 fn exchanged_numbers() {
-    let wanted = "include/shelf.h:7: `JD_NO_ROOM = 2` is expected, found `JD_NO_ROOM = 3,    /* too short */`";
-    change(HEADER, "ROOM = 2", "ROOM = 3", wanted);
-    let wanted = "docs/SHELF.md:6: `| 2 | `NoRoom` |` is expected, found `| 2 | `NotMeeting` |`";
-    let to = "| 2 | `NotMeeting` |\n| 3 | `NoRoom` |";
-    change(TEXT, "| 2 | `NoRoom` |\n| 3 | `NotMeeting` |", to, wanted);
-    let wanted = "include/shelf.h:8: `JD_NOT_MEETING = 3` is expected, found `JD_NOT_MEETING = 30 /* apart */`";
-    change(HEADER, "= 3 ", "= 30 ", wanted);
+    let of_header = |line: usize, wanted: &str, found: &str| {
+        format!("{HEADER}:{line}: `{wanted}*` is expected, found `{found}`")
+    };
+    let found = "JD_NO_ROOM = 3,    /* too short */";
+    let wanted = of_header(7, "JD_NO_ROOM = 2", found);
+    change(HEADER, "ROOM = 2", "ROOM = 3", &wanted);
+    let found = "JD_NOT_MEETING = 30 /* apart */";
+    let wanted = of_header(8, "JD_NOT_MEETING = 3", found);
+    change(HEADER, "= 3 ", "= 30 ", &wanted);
+    let found = "| 3 | `NoRoom` | too short |";
+    let wanted = format!("{TEXT}:6: `| 2 | `NoRoom` | *` is expected, found `{found}`");
+    change(TEXT, "| 2 |", "| 3 |", &wanted);
 }
 
 #[test]
@@ -155,6 +169,18 @@ fn another_count_or_last() {
     change(TEXT, "1 to 3", "1 to 15", wanted);
     let wanted = "include/shelf.h:10: `JD_NOT_MEETING` is expected, found `JD_NO_ROOM`";
     change(HEADER, "<= JD_NOT_MEETING", "<= JD_NO_ROOM", wanted);
+}
+
+#[test]
+fn a_second_refusal_on_a_line() {
+    let of_each = Says::Lines("{name}: \"*\",");
+    let places = [place("a.rs", of_each, "{", "}")];
+    let told = |text: &str| check(&Repository::of(&[FILES[0], ("a.rs", text)]), &places).failures;
+    let right = "{\n  // all\n  Shape: \"a\",\n\n  NoRoom: \"b\",\n  NotMeeting: \"c\",\n}\n";
+    assert!(told(right).is_empty());
+    let two = right.replace("\"b\",", "\"b\", Late: \"d\",");
+    let wanted = "a.rs:5: `NoRoom: \"*\",` is expected, found `NoRoom: \"b\", Late: \"d\",`";
+    assert_eq!(told(&two), [wanted]);
 }
 
 #[test]

@@ -19,6 +19,7 @@ mod evidence;
 mod evidence_tests;
 mod exceptions;
 mod functions;
+mod in_turn;
 mod known;
 mod links;
 mod listings;
@@ -67,7 +68,7 @@ fn main() -> ExitCode {
         "names" => names::check(&repository, EXCEPTIONS).and(links::check(&repository)),
         "believed" => believed::check(&repository),
         "requires" => requires::check(&repository),
-        "refusals" => listings::check(&repository, PLACES),
+        "refusals" => listings::check(&repository, PLACES).and(in_turn::check(&repository)),
         _ => {
             eprintln!("documents contracts | names | believed | requires | refusals");
             return ExitCode::from(2);

@@ -34,6 +34,12 @@ impl Numbering {
         Some(&clause.refusal)
     }
 
+    pub fn turn(&self, number: usize) -> Option<usize> {
+        let name = self.name(number)?;
+        let clause = self.turns.iter().find(|clause| clause.refusal == name)?;
+        Some(clause.value)
+    }
+
     /// By number.
     pub fn names(&self) -> impl Iterator<Item = &str> {
         self.numbers.iter().map(|clause| clause.refusal.as_str())

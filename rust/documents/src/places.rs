@@ -10,8 +10,9 @@ pub struct Place {
 }
 
 pub enum Says {
-    /// A line for each, by number, that begins so: from the line after `from` on, up to a line that begins with `to`, or
-    /// an empty one where `to` is empty. What `{name}`, `{c}` and `{number}` stand for says `Numbering::filled`.
+    /// A line for each, by number: from the line after `from` on, up to one that begins with `to`, or is empty where `to`
+    /// is. Lines of comments are passed over. What `{name}`, `{c}` and `{number}` stand for says `Numbering::filled`; a
+    /// `*` stands for any text.
     Lines(&'static str),
     /// The names in a row, by number, with this mark between them.
     Names(&'static str),
@@ -68,7 +69,7 @@ pub const PLACES: &[Place] = &[
     ),
     place(
         "crates/listing/proofs/Listed.antt",
-        Says::Lines("number-small {name} n e"),
+        Says::Lines("number-small {name} n e = *"),
         "pub number-small :",
         "",
     ),
@@ -80,20 +81,20 @@ pub const PLACES: &[Place] = &[
     ),
     place(
         "include/joistdenim.h",
-        Says::Lines("{c} = {number}"),
+        Says::Lines("{c} = {number}*"),
         "enum jd_refusal {",
         "}",
     ),
     place(
         "include/joistdenim.h",
-        Says::Lines("case {c}: return \""),
+        Says::Lines("case {c}: return \"*\";"),
         "case 0: return \"accepted\";",
         "default:",
     ),
     place("tests/c/refusals.c", Says::Last, "number <= ", ";"),
     place(
         "rust/joistdenim/src/refusal.rs",
-        Says::Lines("{name} = {number}: \""),
+        Says::Lines("{name} = {number}: \"*\","),
         "\nrefusals! {",
         "}",
     ),
@@ -141,14 +142,14 @@ pub const PLACES: &[Place] = &[
     ),
     place(
         "docs/CALLS.md",
-        Says::Lines("| {number} | `{name}` | `{c}` |"),
+        Says::Lines("| {number} | `{name}` | `{c}` | *"),
         "| number | in Rattle and Rust | in C | cause |\n|---|---|---|---|",
         "",
     ),
     place("docs/FORMAT.md", Says::Order, "The order is ", ":"),
     place(
         "docs/FORMAT.md",
-        Says::Lines("| {number} | `{name}` |"),
+        Says::Lines("| {number} | `{name}` | *"),
         "| number | name | cause | for example |\n|---|---|---|---|",
         "",
     ),
