@@ -11,14 +11,17 @@ const WRAPPER: &str = "rust/joistdenim/src";
 /// How a comment begins its list.
 const REFUSES: &str = "Refuses ";
 
-/// The column of the table that has it, counted from the line's first mark on.
-const COLUMN: usize = 3;
+/// The column of a table of calls that has it.
+const COLUMN: &str = "refusals, in order";
+
+/// The line of a list, and its numbers as they are written.
+type List = (usize, Vec<String>);
 
 pub fn check(repository: &Repository) -> Report {
     let mut report = Report::default();
     let numbering = Numbering::of(repository);
     let in_table = repository.text(CALLS).map_or(vec![], of_table);
-    let mut check_lists = |path: &str, lists: Vec<(usize, Vec<usize>)>| {
+    let mut check_lists = |path: &str, lists: Vec<List>| {
         for (line, list) in lists {
             let faults = fault(&list, &numbering).into_iter().collect();
             report.thing(&format!("{path}:{line}"), faults);
@@ -37,40 +40,47 @@ pub fn check(repository: &Repository) -> Report {
     report
 }
 
-/// Each with its line: rows whose cell is such a list.
-fn of_table(document: &str) -> Vec<(usize, Vec<usize>)> {
-    let rows = document.lines().enumerate();
-    let read = |(i, line): (usize, &str)| {
-        let cell = line.strip_prefix("| `")?.split('|').nth(COLUMN - 1)?;
-        let numbers: Result<_, _> = cell.trim().split(", ").map(str::parse).collect();
-        Some((i + 1, numbers.ok()?))
-    };
-    rows.filter_map(read).collect()
+/// A call that hands back a part refuses nothing, and has an empty cell.
+fn of_table(document: &str) -> Vec<List> {
+    let mut column = None;
+    let mut lists = vec![];
+    for (i, line) in document.lines().enumerate() {
+        let cells: Vec<&str> = line.split('|').map(str::trim).collect();
+        if let Some(found) = cells.iter().position(|cell| *cell == COLUMN) {
+            column = Some(found);
+        } else if !line.starts_with('|') {
+            column = None;
+        } else if let Some(cell) = column.and_then(|column| cells.get(column)) {
+            let numbers = cell.split(", ").map(str::to_string).collect();
+            let is_list = !cell.is_empty() && !cell.starts_with("--");
+            lists.extend(is_list.then_some((i + 1, numbers)));
+        }
+    }
+    lists
 }
 
-/// Each with its line, where numbers follow.
-fn of_comments(text: &str) -> Vec<(usize, Vec<usize>)> {
-    let begins = text.match_indices(REFUSES);
+/// What begins so without a number tells something else.
+fn of_comments(text: &str) -> Vec<List> {
     let read = |(at, _)| {
         let words = text[at + REFUSES.len()..].split_whitespace();
         let bare: Vec<&str> = words.filter(|w| !w.starts_with("//")).take(99).collect();
         let line = 1 + text[..at].matches('\n').count();
         (line, numbers(&bare.join(" ")))
     };
-    let lists = begins.map(read);
+    let lists = text.match_indices(REFUSES).map(read);
     lists.filter(|(_, numbers)| !numbers.is_empty()).collect()
 }
 
 /// The numbers at the head, with commas or `and` between them; a remark in brackets may follow each.
-fn numbers(text: &str) -> Vec<usize> {
+fn numbers(text: &str) -> Vec<String> {
     let mut found = vec![];
     let mut rest = text;
     loop {
         let digits = rest.len() - rest.trim_start_matches(|c: char| c.is_ascii_digit()).len();
-        let Ok(number) = rest[..digits].parse() else {
+        if digits == 0 {
             return found;
-        };
-        found.push(number);
+        }
+        found.push(rest[..digits].to_string());
         rest = &rest[digits..];
         if rest.starts_with(" (") {
             rest = rest.split_once(')').map_or("", |(_, behind)| behind);
@@ -81,16 +91,16 @@ fn numbers(text: &str) -> Vec<usize> {
     }
 }
 
-fn fault(list: &[usize], numbering: &Numbering) -> Option<String> {
-    let given = |number: &&usize| numbering.turn(**number).is_none();
-    if let Some(number) = list.iter().find(given) {
-        return Some(format!("no refusal has the number {number}"));
+fn fault(list: &[String], numbering: &Numbering) -> Option<String> {
+    let turn = |number: &String| number.parse().ok().and_then(|n| numbering.turn(n));
+    if let Some(number) = list.iter().find(|number| turn(number).is_none()) {
+        return Some(format!("no refusal has the number `{number}`"));
     }
-    let turn = |number| numbering.turn(number);
-    let falls = list.windows(2).find(|two| turn(two[0]) >= turn(two[1]))?;
-    let (first, second) = (falls[0], falls[1]);
+    let falls = |two: &&[String]| turn(&two[0]) >= turn(&two[1]);
+    let two = list.windows(2).find(falls)?;
     Some(format!(
-        "{second} stands behind {first}, and `turn` has it before"
+        "{} stands behind {}, not by `turn`",
+        two[1], two[0]
     ))
 }
 
@@ -104,50 +114,51 @@ mod tests {
         DEFINITIONS,
         "number A = 1\nnumber B = 2\nnumber C = 3\nturn A = 1\nturn C = 2\nturn B = 3\n",
     );
+    const TABLE: &str = "| call | arguments | refusals, in order |\n|---|---|---|\n";
+    const RIGHT: &str = "// Refuses 1, 3 and 2.\n";
 
     fn told(path: &str, text: &str) -> (usize, Vec<String>) {
         let report = check(&Repository::of(&[GIVEN, (path, text)]));
         (report.passed, report.failures)
     }
 
-    #[test]
-    fn lists_by_turn() {
-        let code = "// Refuses 1, 3 and 2.\n// Refuses 3 (of\n// either), 2.\n// Refuses 1, or 9.\n// Refuses it.\n";
-        assert_eq!(told(CODE, code), (3, vec![]));
-        let table =
-            "| call | arguments | refusals |\n| `join` | both | 1, 3, 2 | a |\n| `a` | b | c |\n";
-        assert_eq!(told(CALLS, table), (1, vec![]));
+    /// A right list and this one make one failure.
+    fn wrong(list: &str, fault: &str) {
+        let wanted = vec![format!("{CODE}:2: {fault}")];
+        let text = format!("{RIGHT}// Refuses {list}.\n");
+        assert_eq!(told(CODE, &text), (1, wanted));
     }
 
     #[test]
-    fn lists_in_another_order_or_with_another_number() {
-        let behind = "3 stands behind 2, and `turn` has it before".to_string();
-        let told = |path: &str, text: &str| {
-            let found = told(path, text).1;
-            found.into_iter().find(|fault| fault.starts_with(path))
-        };
-        let wanted = |place: &str, fault: &str| Some(format!("{place}: {fault}"));
-        let at = format!("{CODE}:2");
-        assert_eq!(
-            told(CODE, "\n// Refuses 1, 2 and 3.\n"),
-            wanted(&at, &behind)
-        );
-        assert_eq!(
-            told(CODE, "\n// Refuses 2 (so), 3.\n"),
-            wanted(&at, &behind)
-        );
-        let twice = "1 stands behind 1, and `turn` has it before";
-        assert_eq!(told(CODE, "\n// Refuses 1, 1.\n"), wanted(&at, twice));
-        let none = "no refusal has the number 4";
-        assert_eq!(told(CODE, "\n// Refuses 1,\n// 4.\n"), wanted(&at, none));
-        let at = format!("{CALLS}:1");
-        assert_eq!(told(CALLS, "| `a` | b | 2, 3 |\n"), wanted(&at, &behind));
-        let at = format!("{WRAPPER}/a.rs:1");
+    fn lists_by_turn() {
+        let more = "// Refuses 3 (of\n// either), 2.\n// Refuses 1, or 9.\n// Refuses it.\n";
+        assert_eq!(told(CODE, &format!("{RIGHT}{more}")), (3, vec![]));
+        let table =
+            format!("{TABLE}| `join` | both | 1, 3, 2 |\n| `key` | it | |\n\n| `a` | b | c |\n");
+        assert_eq!(told(CALLS, &table), (1, vec![]));
+    }
+
+    #[test]
+    fn a_comment_with_another_order_or_number() {
+        wrong("1, 2 and 3", "3 stands behind 2, not by `turn`");
+        wrong("2 (so), 3", "3 stands behind 2, not by `turn`");
+        wrong("1, 2,\n// 3", "3 stands behind 2, not by `turn`");
+        wrong("1, 1", "1 stands behind 1, not by `turn`");
+        wrong("1, 4", "no refusal has the number `4`");
+    }
+
+    #[test]
+    fn a_row_or_the_wrapper_with_another_order() {
+        let rows = "| `a` | b | 1 |\n| `a` | b | 2, 3 |\n| `a` | b | 1 and 3 |\n";
+        let wanted = [
+            "docs/CALLS.md:4: 3 stands behind 2, not by `turn`",
+            "docs/CALLS.md:5: no refusal has the number `1 and 3`",
+        ];
+        assert_eq!(told(CALLS, &format!("{TABLE}{rows}")).1, wanted);
         let path = format!("{WRAPPER}/a.rs");
-        assert_eq!(
-            told(&path, "/// Refuses 2,\n/// 3.\n"),
-            wanted(&at, &behind)
-        );
+        let wanted = format!("{path}:2: 3 stands behind 2, not by `turn`");
+        let text = "/// Refuses 1.\n/// Refuses 2,\n/// 3.\n";
+        assert_eq!(told(&path, text).1, [wanted]);
     }
 
     #[test]
