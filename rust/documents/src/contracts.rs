@@ -1,6 +1,7 @@
 //! The table of the source's contracts, docs/CONTRACTS.md: every declaration and clause has its row, every row its
 //! evidence, and every theorem a row.
 use crate::clauses::{self, Clause};
+use crate::numbering::Numbering;
 use crate::refusals;
 use crate::report::Report;
 use crate::repository::Repository;
@@ -39,7 +40,7 @@ pub fn check(repository: &Repository) -> Report {
     check_marks(document, &files, &mut report);
     let theorems = theorems(repository);
     check_theorems(&files, &theorems, &mut report);
-    check_refusals(&files, &theorems, repository, &mut report);
+    check_refusals(&files, &theorems, &Numbering::of(repository), &mut report);
     let clauses: Vec<Clause> = files.iter().flat_map(File::clauses).collect();
     clauses::check(DOCUMENT, &clauses, &theorems, &mut report);
     check_counts(document, &files, &mut report);
@@ -167,13 +168,13 @@ fn check_theorems(files: &[File], theorems: &[Theorem], report: &mut Report) {
 fn check_refusals(
     files: &[File],
     theorems: &[Theorem],
-    repository: &Repository,
+    numbering: &Numbering,
     report: &mut Report,
 ) {
     for row in files.iter().flat_map(|file| &file.rows) {
         let Some(numbers) = row.refusal else { continue };
         let at = row.at;
-        let Some(wanted) = refusals::words_of(numbers, repository) else {
+        let Some(wanted) = refusals::words_of(numbers, numbering) else {
             report.fail(format!("{DOCUMENT}:{at}: no refusal has that number"));
             continue;
         };

@@ -170,14 +170,8 @@ fn clause_status() {
 }
 
 #[test]
-fn refusal_out_of_range() {
-    for status in [
-        "refusal 0",
-        "refusal 16",
-        "refusal 3-3",
-        "refusal 1-16",
-        "refusal",
-    ] {
+fn refusal_without_a_number_or_a_range() {
+    for status in ["refusal x", "refusal 3-3", "refusal 3-1", "refusal"] {
         row(
             8,
             "refusal 1-3",

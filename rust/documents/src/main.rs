@@ -1,8 +1,9 @@
 //! Checks the documents, from the root of the repository: `documents contracts` the table of the source's contracts,
 //! `documents names` the names in code style and the links, `documents believed` the list of what must be believed; and
 //! what they say of the code, `documents requires`: no public function has one. `documents signatures` holds the boundary,
-//! the headers and the Rust declarations against each other. A line for each failure, then 'N passed, M failed'; the
-//! status is 1 where something failed.
+//! the headers and the Rust declarations against each other, and `documents refusals` what lists refusals, in code and
+//! text, against their numbers and turns. A line for each failure, then 'N passed, M failed'; the status is 1 where
+//! something failed.
 mod believed;
 #[cfg(test)]
 mod believed_sample;
@@ -21,11 +22,17 @@ mod evidence_tests;
 mod exceptions;
 mod forms;
 mod functions;
+mod in_turn;
 mod known;
 mod links;
+mod listings;
+#[cfg(test)]
+mod listings_tests;
 mod names;
 #[cfg(test)]
 mod names_tests;
+mod numbering;
+mod places;
 mod prototypes;
 mod refusals;
 mod report;
@@ -51,6 +58,7 @@ mod theorems;
 mod words;
 
 use exceptions::EXCEPTIONS;
+use places::PLACES;
 use repository::Repository;
 use std::path::Path;
 use std::process::ExitCode;
@@ -70,8 +78,9 @@ fn main() -> ExitCode {
         "believed" => believed::check(&repository),
         "requires" => requires::check(&repository),
         "signatures" => signatures::check(&repository),
+        "refusals" => listings::check(&repository, PLACES).and(in_turn::check(&repository)),
         _ => {
-            eprintln!("documents contracts | names | believed | requires | signatures");
+            eprintln!("documents contracts | names | believed | requires | signatures | refusals");
             return ExitCode::from(2);
         }
     };

@@ -1,40 +1,30 @@
-//! The numbers of refusals: a row that has one cites a theorem that says so.
-use crate::repository::Repository;
-use std::ops::RangeInclusive;
-
-/// Where each refusal has its number.
-pub const NUMBERS: &str = "crates/model/specs/calls/Refusals.antt";
+//! The numbers of refusals in the table of contracts: a row that has one cites a theorem that says so.
+use crate::numbering::Numbering;
 
 /// The first and the last number of a row's status.
 pub type Numbers = (usize, usize);
 
-/// The numbers that there are.
-const ALL: RangeInclusive<usize> = 1..=15;
-
-/// `refusal N` or `refusal N-M`.
+/// `refusal N` or `refusal N-M`. Whether these numbers are given says `words_of`.
 pub fn read(status: &str) -> Option<Numbers> {
-    let number = |n: &str| n.parse().ok().filter(|n| ALL.contains(n));
     let numbers = status.strip_prefix("refusal ")?;
     match numbers.split_once('-') {
-        None => number(numbers).map(|n| (n, n)),
+        None => numbers.parse().ok().map(|n| (n, n)),
         Some((first, last)) => {
-            let range = (number(first)?, number(last)?);
+            let range: Numbers = (first.parse().ok()?, last.parse().ok()?);
             (range.0 < range.1).then_some(range)
         }
     }
 }
 
-/// The words that the theorem's statement must have: a refusal at its place, or one up to a number.
-pub fn words_of((first, last): Numbers, repository: &Repository) -> Option<[String; 2]> {
-    if first < last {
-        return Some(["Refuses".to_string(), last.to_string()]);
+/// The words that the theorem's statement must have: a refusal at its place, or one up to a number. `None` where no
+/// refusal has the first or the last number.
+pub fn words_of((first, last): Numbers, numbering: &Numbering) -> Option<[String; 2]> {
+    let name = numbering.name(first)?;
+    numbering.name(last)?;
+    match first < last {
+        true => Some(["Refuses".to_string(), last.to_string()]),
+        false => Some(["RefusesAt".to_string(), name.to_string()]),
     }
-    let numbers = repository.text(NUMBERS)?;
-    let name = numbers.lines().find_map(|line| {
-        let (name, number) = line.strip_prefix("number ")?.split_once(" = ")?;
-        (number.parse() == Ok(first)).then_some(name)
-    })?;
-    Some(["RefusesAt".to_string(), name.to_string()])
 }
 
 pub fn says(statement: &str, wanted: &[String]) -> bool {
@@ -48,11 +38,10 @@ mod tests {
     use super::read;
 
     #[test]
-    fn each_of_the_fifteen_and_ranges_are_read() {
-        for n in 1..=15 {
-            assert_eq!(read(&format!("refusal {n}")), Some((n, n)));
-        }
+    fn numbers_and_ranges_are_read() {
+        assert_eq!(read("refusal 7"), Some((7, 7)));
+        assert_eq!(read("refusal 12"), Some((12, 12)));
         assert_eq!(read("refusal 1-4"), Some((1, 4)));
-        assert_eq!(read("refusal 1-15"), Some((1, 15)));
+        assert_eq!(read("refusal 9-10"), Some((9, 10)));
     }
 }

@@ -8,7 +8,7 @@ pub const THEOREMS: &str = "crates/contracts/proofs/Tables.antt";
 pub const SPECS: &str = "crates/model/specs/Tables.antt";
 pub const CODE: &str = "crates/tables/src/lib.rt";
 pub const HEADER: &str = "include/tables.h";
-pub const NUMBERS: &str = crate::refusals::NUMBERS;
+pub const NUMBERS: &str = crate::numbering::DEFINITIONS;
 
 const FILES: [(&str, &str); 9] = [
     (
@@ -128,7 +128,10 @@ pub(crate) const SLOTS: u8 = 63;
 ",
     ),
     (HEADER, "uint32_t get_key(void);\n"),
-    (NUMBERS, "number Shape = 1\nnumber Unsorted = 3\n"),
+    (
+        NUMBERS,
+        "number Shape = 1\nnumber Malformed = 2\nnumber Unsorted = 3\n",
+    ),
 ];
 
 /// The sample with one text of one file replaced; it must be there.

@@ -161,9 +161,11 @@ fn refusal_up_to_another_number() {
 }
 
 #[test]
-fn refusal_without_a_name() {
+fn refusal_whose_number_isnt_given() {
     let wanted = "docs/CONTRACTS.md:19: no refusal has that number";
-    document("refusal 1-3", "refusal 2", wanted);
+    for status in ["refusal 0", "refusal 4", "refusal 0-3", "refusal 1-4"] {
+        document("refusal 1-3", status, wanted);
+    }
 }
 
 #[test]

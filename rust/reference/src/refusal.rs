@@ -1,5 +1,5 @@
-//! The fifteen refusals. Each call has an order of its causes, in which 13 and 14 come after 4, and
-//! 11, 12 and 15 after 5.
+//! The refusals by number. Each call has an order of its causes, which isn't that of the numbers:
+//! `lib.rs` tells it.
 
 #[derive(Clone, Copy, Debug, PartialEq, Eq)]
 pub enum Refusal {
