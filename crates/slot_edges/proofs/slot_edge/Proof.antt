@@ -1,12 +1,11 @@
--- `cuts::slot_edge` meets its contract.
+-- `slot_edges::slot_edge` meets its contract.
 use Rattle.model.proofs.Lists.{part-counts}
-use Rattle.model.proofs.calls.CutCalls.{cut-next-fits}
-use Rattle.cuts.proofs.Slots.{new-right-short, edge-short, new-left-short, new-left, new-right, grows, slot-answer, slot-made}
+use Rattle.slot_edges.proofs.Slots.{left-answer, left-made, right-answer, right-made}
 use borrow.Author.Needs.{needs}
-use Rattle.cuts.proofs.edge.slot_edge.Statement.{statement}
-use Rattle.cuts.proofs.edge.slot_edge.Tie as tie
+use Rattle.slot_edges.proofs.slot_edge.Statement.{statement}
+use Rattle.slot_edges.proofs.slot_edge.Tie as tie
 
-ruleset rules = (needs, part-counts, cut-next-fits, new-right-short, edge-short, new-left-short, new-left, new-right, grows, slot-answer, slot-made)
+ruleset rules = (needs, part-counts, left-answer, left-made, right-answer, right-made)
 
 record-at-requires : tie.Need-record-at-requires
 record-at-requires c κs = search rules
@@ -14,14 +13,11 @@ record-at-requires c κs = search rules
 key-bytes-requires : tie.Need-key-bytes-requires
 key-bytes-requires c κs = search rules
 
-add-record-at : tie.Need-add-record-at
-add-record-at c = search rules
+record-after-requires : tie.Need-record-after-requires
+record-after-requires c κs = search rules
 
 record-at-requires-2 : tie.Need-record-at-requires-2
 record-at-requires-2 c κs = search rules
-
-record-at-requires-3 : tie.Need-record-at-requires-3
-record-at-requires-3 c κs = search rules
 
 range-prefix-len-requires : tie.Need-range-prefix-len-requires
 range-prefix-len-requires c κs = search rules
@@ -36,7 +32,7 @@ slice-aggregate-cut-edge-2 : tie.Need-slice-aggregate-cut-edge-2
 slice-aggregate-cut-edge-2 c = search rules
 
 cut-edge-requires : tie.Need-cut-edge-requires
-cut-edge-requires c κs = (search rules, search rules, search rules, search rules)
+cut-edge-requires c κs = search rules
 
 same-length : tie.Need-same-length
 same-length c = search rules
@@ -54,7 +50,7 @@ slice-aggregate-cut-edge-4 : tie.Need-slice-aggregate-cut-edge-4
 slice-aggregate-cut-edge-4 c = search rules
 
 cut-edge-requires-2 : tie.Need-cut-edge-requires-2
-cut-edge-requires-2 c κs = (search rules, search rules, search rules, search rules)
+cut-edge-requires-2 c κs = search rules
 
 same-length-2 : tie.Need-same-length-2
 same-length-2 c = search rules
@@ -68,9 +64,8 @@ slot-edge-spec =
     (tie.spec
     record-at-requires
     key-bytes-requires
-    add-record-at
+    record-after-requires
     record-at-requires-2
-    record-at-requires-3
     range-prefix-len-requires
     key-range-prefix-requires
     slice-aggregate-cut-edge

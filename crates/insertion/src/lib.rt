@@ -1,17 +1,17 @@
-// A key as a new pivot of a table, with its edges.
-use crate::edge::slot_edge;
+// A key as a new pivot of a table, with its edges. No public function has a `requires`.
 use model::Answer;
 use model::RECORD_SIZE;
 use model::Routed;
 ghost use mathlib.Core.Path.{_≡_};
 ghost use mathlib.Core.Bool.{true};
+ghost use Prim.Native.Nat.{_*_};
 ghost use lib.ListN.{length};
-ghost use Rattle.model.specs.records.Record.{encodeAll, encodeEdges};
+ghost use Rattle.model.specs.records.Record.{recordSize, encodeAll, encodeEdges};
 ghost use Rattle.model.specs.tables.Tables.{all, shortEdge};
 ghost use Rattle.model.specs.calls.Refusals.{answer, leaves};
 ghost use Rattle.model.specs.calls.CutCalls.{writeCauses};
 ghost use Rattle.model.specs.calls.InsertionCalls.{insertedPivots, insertedEdges, insertAnswer, insertLeavesPivots, insertLeavesEdges};
-ghost use Rattle.cuts.specs.Slot.{New, edgesCut, longEdges};
+ghost use Rattle.insertion.specs.New.{New, edgesCut, longEdges};
 
 // Cause 10 of an insertion into slot c, whose two edges are made; else the pivots and edges at the heads of the
 // destinations.
@@ -46,15 +46,15 @@ fn write_in(
 
 // The edges of the two halves of slot c, as records at the head of made. Answers 1. Refuses 8.
 fn half_edges(pivots: &[u8], edges: &[u8], k: &[u8], c: usize, made: &mut [u8]) -> Answer
-    requires { ⌜ (New (now pivots) (now edges) (now k) c) × (length (now made) ≡ 132) ⌝ }
+    requires { ⌜ (New (now pivots) (now edges) (now k) c) × (length (now made) ≡ 2 * recordSize) ⌝ }
     ensures answered { λ r. ⌜ r ≡ answer (longEdges (insertedEdges (now (pivots .entry)) (now (edges .entry)) (now (k .entry)))) 1 ⌝ }
     ensures written { λ r. ⌜ (all shortEdge (insertedEdges (now (pivots .entry)) (now (edges .entry)) (now (k .entry))) ≡ true → now (made .exit) ≡ edgesCut (now (pivots .entry)) (now (edges .entry)) (now (k .entry))) ⌝ }
 {
-    let left = slot_edge(pivots, edges, k, c, true, made);
+    let left = slot_edges::slot_edge(pivots, edges, k, c, true, made);
     let Answer::Value(_) = left else {
         return left;
     };
-    slot_edge(pivots, edges, k, c, false, &mut made[RECORD_SIZE..])
+    slot_edges::slot_edge(pivots, edges, k, c, false, &mut made[RECORD_SIZE..])
 }
 
 // Causes 8 and 10 of an insertion into slot c; else the pivots and edges at the heads of the destinations.
@@ -71,7 +71,7 @@ fn insert_at(
     ensures pivots { λ r. ⌜ now («dest_pivots» .exit) ≡ leaves (writeCauses (insertedPivots (now (pivots .entry)) (now (k .entry))) (insertedEdges (now (pivots .entry)) (now (edges .entry)) (now (k .entry))) (now («dest_pivots» .entry)) (now («dest_edges» .entry))) (encodeAll (insertedPivots (now (pivots .entry)) (now (k .entry)))) (now («dest_pivots» .entry)) ⌝ }
     ensures edges { λ r. ⌜ now («dest_edges» .exit) ≡ leaves (writeCauses (insertedPivots (now (pivots .entry)) (now (k .entry))) (insertedEdges (now (pivots .entry)) (now (edges .entry)) (now (k .entry))) (now («dest_pivots» .entry)) (now («dest_edges» .entry))) (encodeEdges (insertedEdges (now (pivots .entry)) (now (edges .entry)) (now (k .entry)))) (now («dest_edges» .entry)) ⌝ }
 {
-    let mut made = [0u8; 132];
+    let mut made = [0u8; 2 * RECORD_SIZE];
     let cut = half_edges(pivots, edges, k, c, &mut made);
     let Answer::Value(_) = cut else {
         return cut;

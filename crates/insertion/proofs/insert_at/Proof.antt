@@ -1,9 +1,9 @@
--- `cuts::insert_at` meets its contract.
+-- `insertion::insert_at` meets its contract.
 use mathlib.Core.Path.{refl}
-use Rattle.cuts.proofs.Inserts.{edges-refused, edges-taken}
+use Rattle.insertion.proofs.Inserts.{edges-refused, edges-taken}
 use borrow.Author.Needs.{needs}
-use Rattle.cuts.proofs.insert.insert_at.Statement.{statement}
-use Rattle.cuts.proofs.insert.insert_at.Tie as tie
+use Rattle.insertion.proofs.insert_at.Statement.{statement}
+use Rattle.insertion.proofs.insert_at.Tie as tie
 
 ruleset rules = (needs, refl, edges-refused, edges-taken)
 

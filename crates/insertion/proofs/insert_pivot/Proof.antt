@@ -1,9 +1,9 @@
--- `cuts::insert_pivot` meets its contract.
+-- `insertion::insert_pivot` meets its contract.
 use Rattle.model.proofs.calls.Refusals.{slot-handing-on}
-use Rattle.cuts.proofs.Inserts.{new-none, new-slot, new-found, new-cutoff}
+use Rattle.insertion.proofs.Inserts.{new-none, new-slot, new-found, new-cutoff}
 use borrow.Author.Needs.{needs}
-use Rattle.cuts.proofs.insert.insert_pivot.Statement.{statement}
-use Rattle.cuts.proofs.insert.insert_pivot.Tie as tie
+use Rattle.insertion.proofs.insert_pivot.Statement.{statement}
+use Rattle.insertion.proofs.insert_pivot.Tie as tie
 
 ruleset rules = (needs, slot-handing-on)
 

@@ -1,12 +1,12 @@
--- `cuts::write_in` meets its contract.
+-- `insertion::write_in` meets its contract.
 use Rattle.model.proofs.Lists.{part-counts}
-use Rattle.cuts.proofs.Writes.{key-fits, at-fits, next-fits, pivots-next, edges-at, edges-next}
+use Rattle.model.proofs.calls.CutPlaces.{key-fits, at-fits, next-fits, pivots-next, edges-at, edges-next}
 use Rattle.model.proofs.calls.InsertionCalls.{insert-pivots-short}
 use Rattle.model.proofs.calls.Writing.{table-answered, table-pivots, table-edges}
-use Rattle.cuts.proofs.Inserts.{new-pivots, new-edges}
+use Rattle.insertion.proofs.Inserts.{new-pivots, new-edges}
 use borrow.Author.Needs.{needs}
-use Rattle.cuts.proofs.insert.write_in.Statement.{statement}
-use Rattle.cuts.proofs.insert.write_in.Tie as tie
+use Rattle.insertion.proofs.write_in.Statement.{statement}
+use Rattle.insertion.proofs.write_in.Tie as tie
 
 ruleset rules = (needs, part-counts, key-fits, at-fits, next-fits, pivots-next, edges-at, edges-next, new-pivots, new-edges, insert-pivots-short, table-answered, table-pivots, table-edges)
 

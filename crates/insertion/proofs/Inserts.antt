@@ -29,8 +29,10 @@ use Rattle.model.proofs.calls.Refusals.{refused-first, none-here, accepted, ref
 use Rattle.model.proofs.records.Record.{length-encodeEdge}
 use Rattle.model.proofs.keys.Key.{both, bytes-of}
 use Rattle.model.proofs.calls.InsertionCalls.{insert-found, insert-cutoff, insert-key, insert-pivots-bytes, insert-edges-bytes, insert-short, insert-half-long}
-use Rattle.cuts.specs.Slot.{edgeCut, edgesCut, longCauses, longEdges}
-use Rattle.cuts.proofs.Writes.{next-place, edge-taken}
+use Rattle.model.proofs.calls.CutPlaces.{next-place}
+use Rattle.slot_edges.specs.Slot.{edgeCut, longEdgeCauses}
+use Rattle.slot_edges.proofs.Edges.{edge-taken}
+use Rattle.insertion.specs.New.{edgesCut, longEdges}
 
 module _ (p e k : List ℕ) (c : ℕ) (h : first (newPivotCauses p e k) ≡ none) (f : c ≡ Route (elements p) k) where
   -- ---- the bytes of the new table
@@ -79,14 +81,14 @@ module _ (p e k : List ℕ) (h : first (newPivotCauses p e k) ≡ none) where
 
   module _ (z : Answer) where
     -- a long one ends the insertion
-    module _ (left : Bool) (q : z ≡ answer (longCauses (edgeCut left p e k)) 1) (y : Refusal) (r : z ≡ answers.Refused y) where
+    module _ (left : Bool) (q : z ≡ answer (longEdgeCauses (edgeCut left p e k)) 1) (y : Refusal) (r : z ≡ answers.Refused y) where
       half-is-long : shortEdge (edgeCut left p e k) ≡ false
       unfolding outcome
       half-is-long = go (shortEdge (edgeCut left p e k)) refl
         where
           go : (b : Bool) → shortEdge (edgeCut left p e k) ≡ b → b ≡ false
           go true b =
-              let i : none ≡ some y = rw b at (refused (longCauses (edgeCut left p e k)) 1 z q y r) in
+              let i : none ≡ some y = rw b at (refused (longEdgeCauses (edgeCut left p e k)) 1 z q y r) in
               let n : _≡_ {A = ℕ} 0 1 = cc in absurd (omega arith)
           go false b = refl
 
@@ -98,10 +100,10 @@ module _ (p e k : List ℕ) (h : first (newPivotCauses p e k) ≡ none) where
       half-unmade w v f = absurd (true≢false (sym f ∙ half-long left half-is-long))
 
     -- beside a short one the other decides
-    pub second-half : (a : Answer) (i : ℕ) → a ≡ answer (longCauses (edgeCut true p e k)) 1 → a ≡ answers.Value i
-        → z ≡ answer (longCauses (edgeCut false p e k)) 1 → z ≡ answer (longEdges (insertedEdges p e k)) 1
+    pub second-half : (a : Answer) (i : ℕ) → a ≡ answer (longEdgeCauses (edgeCut true p e k)) 1 → a ≡ answers.Value i
+        → z ≡ answer (longEdgeCauses (edgeCut false p e k)) 1 → z ≡ answer (longEdges (insertedEdges p e k)) 1
     unfolding outcome
-    second-half a i f g q = q ∙ rw (only-halves, edge-taken true p e k a f i g)
+    second-half a i f g q = q ∙ rw (only-halves, edge-taken (edgeCut true p e k) a f i g)
 
 -- ---- what the edges of the halves answer
 
@@ -118,8 +120,8 @@ module _ (p e k : List ℕ) (z : Answer) (q : z ≡ answer (longEdges (insertedE
 -- ---- both made, one after the other
 
 module _ (p e k made one two : List ℕ) (h : first (newPivotCauses p e k) ≡ none) (n : length made ≡ 132) where
-  pub both-made : one ≡ leaves (longCauses (edgeCut true p e k)) (encodeEdge (edgeCut true p e k)) made
-      → two ≡ leaves (longCauses (edgeCut false p e k)) (encodeEdge (edgeCut false p e k)) (take (length one - 66) (drop 66 one))
+  pub both-made : one ≡ leaves (longEdgeCauses (edgeCut true p e k)) (encodeEdge (edgeCut true p e k)) made
+      → two ≡ leaves (longEdgeCauses (edgeCut false p e k)) (encodeEdge (edgeCut false p e k)) (take (length one - 66) (drop 66 one))
       → all shortEdge (insertedEdges p e k) ≡ true → putMid 66 (length one - 66) one two ≡ edgesCut p e k
   unfolding outcome
   both-made u v f =
