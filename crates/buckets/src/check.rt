@@ -29,7 +29,7 @@ fn entry_reads(entry: &[u8]) -> bool
     requires { ⌜ recordSize ≤ length (now entry) ⌝ }
     ensures { λ r. ⌜ r ≡ keyReading (reading (entryRecord (now (entry .entry)))) ⌝ }
 {
-    records::holds(&entry[..RECORD_SIZE], false, false)
+    records::holds_key(&entry[..RECORD_SIZE])
 }
 
 // Whether each entry's record is a key's.

@@ -1,4 +1,1 @@
-pub mod Edges
-pub mod Slots
 pub mod Writes
-pub mod Inserts

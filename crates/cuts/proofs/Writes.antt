@@ -5,12 +5,10 @@ use mathlib.Core.List.{List, [], _++_, append-nil}
 use mathlib.Core.Option.{none}
 use Prim.Native.Nat.{ℕ, _+_, _*_, _-_, _≤_}
 use native.Mathlib.Omega.{arith}
-use mir.Syntax.{w8, w16, w64}
+use mir.Syntax.{w8}
 use mir.Val.{Fits}
-use borrow.Author.Tests.{not-false}
 use lib.ListN.{length, take, drop, getD}
 use Rattle.model.specs.declared.Refusal.{Refusal}
-use Rattle.model.specs.declared.Refusal.the-variants.{TooLong}
 use Rattle.model.specs.declared.Answer.{Answer}
 use Rattle.model.specs.declared.Answer.the-variants as answers
 use Rattle.model.specs.records.Record.{recordSize, elements, recordOf, encodeEdge, encodeAll, encodeEdges}
@@ -21,41 +19,16 @@ use Rattle.model.specs.calls.Refusals.{outcome, first, answer, leaves}
 use Rattle.model.specs.calls.CutCalls.{cutPivots, cutEdges, writeCauses}
 use Rattle.model.specs.calls.TableCalls.{edgeSlotCauses}
 use Rattle.model.proofs.Lists.{rest, over-all, clipped-all}
-use Rattle.model.proofs.calls.Refusals.{refused-first, refused, accepted, passed, none-here}
+use Rattle.model.proofs.calls.Refusals.{refused-first, refused, accepted, passed}
 use Rattle.model.proofs.records.Record.{length-encodeEdge}
 use Rattle.model.proofs.keys.Key.{bytes-of}
-use Rattle.model.proofs.calls.CutCalls.{cut-slot-small, cut-key, cut-slot, cut-slot-edge, cut-short, cut-pivots-bytes, cut-edges-bytes}
-use Rattle.cuts.specs.Slot.{edgeCut, longCauses}
-
--- the place after a record is that of the next one
-pub next-place : (n : ℕ) → (n + 1) * recordSize ≡ n * 66 + 66
-next-place n = omega arith
+use Rattle.model.proofs.calls.CutCalls.{cut-key, cut-short, cut-pivots-bytes, cut-edges-bytes}
+use Rattle.model.proofs.calls.CutPlaces.{next-place}
+use Rattle.slot_edges.specs.Slot.{edgeCut, longEdgeCauses}
+use Rattle.slot_edges.proofs.Edges.{edge-taken}
 
 module _ (left : Bool) (p e k : List ℕ) (c : ℕ) (h : first (edgeSlotCauses p e k (inside left (elements p) k)) ≡ none)
     (f : c ≡ cutoff left (elements p) k) where
-  -- ---- places: that of the slot and the next, within pivots and edges
-
-  pub key-fits : Fits w16 (length k)
-  key-fits = record { fits = omega (arith, cut-key left p e k h) }
-
-  pub at-fits : Fits w64 (c * 66)
-  at-fits = record { fits = omega (arith, f, cut-slot-small left p e k h) }
-
-  pub next-fits : Fits w64 (c * 66 + 66)
-  next-fits = record { fits = omega (arith, f, cut-slot-small left p e k h) }
-
-  pub pivots-at : c * 66 ≤ length p
-  pivots-at = omega (arith, f, cut-slot left p e k h)
-
-  pub pivots-next : c * 66 + 66 ≤ length p
-  pivots-next = omega (arith, f, cut-slot left p e k h)
-
-  pub edges-at : c * 66 ≤ length e
-  edges-at = omega (arith, f, cut-slot-edge left p e k h)
-
-  pub edges-next : c * 66 + 66 ≤ length e
-  edges-next = omega (arith, f, cut-slot-edge left p e k h)
-
   -- ---- the bytes of the cut, by the side
 
   module _ (v : List ℕ) (t : (i : ℕ) → Fits w8 (getD p i 0)) (u : v ≡ recordOf (length k) (clipped k)) where
@@ -88,21 +61,19 @@ module _ (left : Bool) (p e k : List ℕ) (h : first (edgeSlotCauses p e k (insi
   pub edges-short : shortEdge (edgeCut left p e k) ≡ true → all shortEdge (cutEdges left p e k) ≡ true
   edges-short s = only-cut ∙ s
 
-module _ (left : Bool) (p e k : List ℕ) (z : Answer) (q : z ≡ answer (longCauses (edgeCut left p e k)) 1) where
-  module _ (m : ℕ) (r : z ≡ answers.Value m) where
-    none-long : first (longCauses (edgeCut left p e k)) ≡ none
-    none-long = accepted _ 1 z q m r
+-- what making it answers, and leaves in the room of a record
+module _ (left : Bool) (p e k : List ℕ) (z : Answer) (q : z ≡ answer (longEdgeCauses (edgeCut left p e k)) 1) where
+  pub edge-short : (m : ℕ) → z ≡ answers.Value m → shortEdge (edgeCut left p e k) ≡ true
+  edge-short m r = edge-taken (edgeCut left p e k) z q m r
 
-    pub edge-taken : shortEdge (edgeCut left p e k) ≡ true
-    edge-taken = not-false _ (none-here _ TooLong [] none-long)
+  pub edge-made : (m : ℕ) → z ≡ answers.Value m → (v room : List ℕ)
+      → v ≡ leaves (longEdgeCauses (edgeCut left p e k)) (encodeEdge (edgeCut left p e k)) room → length room ≡ 66 → v ≡ encodeEdge (edgeCut left p e k)
+  edge-made m r v room u t =
+      let i = length-encodeEdge (edgeCut left p e k) (edge-short m r) in
+      u ∙ sym (passed (λ (_ : Refusal). room) _ _ _ (accepted _ 1 z q m r) refl)
+      ∙ over-all (encodeEdge (edgeCut left p e k)) room (omega (arith, i, t))
 
-    pub edge-made : (v made : List ℕ) → v ≡ leaves (longCauses (edgeCut left p e k)) (encodeEdge (edgeCut left p e k)) made → length made ≡ 66
-        → v ≡ encodeEdge (edgeCut left p e k)
-    edge-made v made u t =
-        let i = length-encodeEdge (edgeCut left p e k) edge-taken in
-        u ∙ sym (passed (λ (_ : Refusal). made) _ _ _ none-long refl) ∙ over-all (encodeEdge (edgeCut left p e k)) made (omega (arith, i, t))
-
-  module _ {A : Type 0} (g : Refusal → A) (v x : A) (dp de : List ℕ) (h : first (edgeSlotCauses p e k (inside left (elements p) k)) ≡ none) where
-    pub edge-refused : (y : Refusal) → z ≡ answers.Refused y → x ≡ g y → x ≡ outcome g (writeCauses (cutPivots left p k) (cutEdges left p e k) dp de) v
-    edge-refused y r w =
-        rw (only-cut left p e k h) (refused-first g v x (longCauses (edgeCut left p e k)) _ y (refused _ 1 z q y r) w)
+  pub edge-refused : {A : Type 0} (g : Refusal → A) (v x : A) (dp de : List ℕ) → first (edgeSlotCauses p e k (inside left (elements p) k)) ≡ none
+      → (y : Refusal) → z ≡ answers.Refused y → x ≡ g y → x ≡ outcome g (writeCauses (cutPivots left p k) (cutEdges left p e k) dp de) v
+  edge-refused g v x dp de h y r w =
+      rw (only-cut left p e k h) (refused-first g v x (longEdgeCauses (edgeCut left p e k)) _ y (refused _ 1 z q y r) w)

@@ -1,5 +1,4 @@
 // The cut on the left and on the right.
-use crate::edge::slot_edge;
 use model::Answer;
 use model::RECORD_SIZE;
 use model::Routed;
@@ -10,7 +9,7 @@ ghost use Rattle.model.specs.records.Record.{encodeEdge, encodeAll, encodeEdges
 ghost use Rattle.model.specs.tables.Tables.{shortEdge};
 ghost use Rattle.model.specs.calls.Refusals.{answer, leaves};
 ghost use Rattle.model.specs.calls.CutCalls.{cutPivots, cutEdges, writeCauses, cutAnswer, cutLeavesPivots, cutLeavesEdges};
-ghost use Rattle.cuts.specs.Slot.{Found, edgeCut};
+ghost use Rattle.slot_edges.specs.Slot.{Found, edgeCut};
 
 // Cause 10 of a cut in slot c whose edge is made; else its pivots and edges at the heads of the destinations.
 fn write_at(
@@ -71,8 +70,8 @@ fn cut_at(
     ensures pivots { λ r. ⌜ now («dest_pivots» .exit) ≡ leaves (writeCauses (cutPivots left (now (pivots .entry)) (now (k .entry))) (cutEdges left (now (pivots .entry)) (now (edges .entry)) (now (k .entry))) (now («dest_pivots» .entry)) (now («dest_edges» .entry))) (encodeAll (cutPivots left (now (pivots .entry)) (now (k .entry)))) (now («dest_pivots» .entry)) ⌝ }
     ensures edges { λ r. ⌜ now («dest_edges» .exit) ≡ leaves (writeCauses (cutPivots left (now (pivots .entry)) (now (k .entry))) (cutEdges left (now (pivots .entry)) (now (edges .entry)) (now (k .entry))) (now («dest_pivots» .entry)) (now («dest_edges» .entry))) (encodeEdges (cutEdges left (now (pivots .entry)) (now (edges .entry)) (now (k .entry)))) (now («dest_edges» .entry)) ⌝ }
 {
-    let mut made = [0u8; 66];
-    let cut = slot_edge(pivots, edges, k, c, left, &mut made);
+    let mut made = [0u8; RECORD_SIZE];
+    let cut = slot_edges::slot_edge(pivots, edges, k, c, left, &mut made);
     let Answer::Value(_) = cut else {
         return cut;
     };

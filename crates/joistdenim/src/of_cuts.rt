@@ -63,7 +63,7 @@ pub extern "C" fn jd_insert_pivot(
     ensures edges { λ r. ⌜ now («dest_edges» .exit) ≡ insertLeavesEdges (now (pivots .entry)) (now (edges .entry)) (now (key .entry)) (now («dest_pivots» .entry)) (now («dest_edges» .entry)) ⌝ }
 {
     tell(
-        cuts::insert_pivot(pivots, edges, key, dest_pivots, dest_edges),
+        insertion::insert_pivot(pivots, edges, key, dest_pivots, dest_edges),
         value,
     )
 }

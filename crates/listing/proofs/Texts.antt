@@ -8,13 +8,17 @@ use borrow.Author.Tests.{lt-ltb, le-ltb}
 use borrow.Rule.Slice.PartMut.{putMid}
 use lib.Dec.{eqb}
 use lib.ListN.{length, take, drop, length-append, length-take, length-drop}
+use Rattle.model.specs.declared.EdgeKind.{EdgeKind}
+use Rattle.model.specs.declared.EdgeKind.the-variants as kinds
 use Rattle.model.specs.keys.Key.{Key}
 use Rattle.model.specs.keys.Order.{key, max}
-use Rattle.model.specs.records.Record.{edge, noEdge, maxMark, noEdgeMark, lengthField, keyBytes, element, edgeOf}
+use Rattle.model.specs.records.Record.{edge, maxMark, lengthField, keyBytes, element}
 use Rattle.model.specs.ranges.RangePrefix.{PivotLcp}
+use Rattle.model.specs.inner.EdgeKinds.{edgeKind}
 use Rattle.model.specs.inner.Written.{into}
 use Rattle.model.specs.list.ShelfList.{tab, newline, digit, decimal, hex, dash, dot, maxWord, keyText, elementText, edgeText}
 use Rattle.model.proofs.Lists.{length-over, written-on}
+use Rattle.model.proofs.records.Record.{absent-edge, prefix-edge}
 use Rattle.model.proofs.keys.Key.{prefix-is-take}
 use Rattle.model.proofs.ranges.RangePrefix.{prefix-of-left}
 use Rattle.listing.specs.Text.{hexOr, field, pivotField, sharedField, edgeField}
@@ -179,26 +183,18 @@ module _ (l r : List ℕ) (t : Bool) (e : t ≡ eqb (lengthField l) maxMark) whe
 
 -- ---- an edge
 
-module _ (r : List ℕ) (t : Bool) (e : t ≡ eqb (lengthField r) noEdgeMark) where
-  is-none : t ≡ true → edgeOf r ≡ noEdge
-  unfolding edgeOf
-  is-none h = rw (← e, h)
-
-  is-edge : t ≡ false → edgeOf r ≡ edge (keyBytes r)
-  unfolding edgeOf
-  is-edge h = rw (← e, h)
-
-  pub no-edge-length : t ≡ true → 2 ≡ length (edgeField r)
+module _ (r : List ℕ) (t : EdgeKind) (e : t ≡ edgeKind r) where
+  pub no-edge-length : t ≡ kinds.Absent → 2 ≡ length (edgeField r)
   unfolding field edgeText dash
-  no-edge-length h = rw (is-none h)
+  no-edge-length h = rw (absent-edge r t e h)
 
-  pub no-edge-written : (d w : List ℕ) → t ≡ true → w ≡ into (0x2d ∷ 0x0a ∷ []) d → w ≡ into (edgeField r) d
+  pub no-edge-written : (d w : List ℕ) → t ≡ kinds.Absent → w ≡ into (0x2d ∷ 0x0a ∷ []) d → w ≡ into (edgeField r) d
   unfolding field edgeText dash
-  no-edge-written d w h f = rw (is-none h) f
+  no-edge-written d w h f = rw (absent-edge r t e h) f
 
-  pub edge-length : (mark n : ℕ) (k : Key) → k ≡ keyBytes r → t ≡ false → n ≡ length (field (hexOr mark k) newline) → n ≡ length (edgeField r)
-  edge-length mark n k g h f = rw (is-edge h, ← g) (marked-length mark n newline k f .1)
+  pub edge-length : (mark n m : ℕ) (k : Key) → k ≡ keyBytes r → t ≡ kinds.Prefix m → n ≡ length (field (hexOr mark k) newline) → n ≡ length (edgeField r)
+  edge-length mark n m k g h f = rw (prefix-edge r t e m h, ← g) (marked-length mark n newline k f .1)
 
-  pub edge-written : (k : Key) (d w : List ℕ) → k ≡ keyBytes r → t ≡ false → w ≡ into (field (hexOr 0x2e k) newline) d
+  pub edge-written : (m : ℕ) (k : Key) (d w : List ℕ) → k ≡ keyBytes r → t ≡ kinds.Prefix m → w ≡ into (field (hexOr 0x2e k) newline) d
       → w ≡ into (edgeField r) d
-  edge-written k d w g h f = rw (is-edge h, ← g, ← edge-is k) f
+  edge-written m k d w g h f = rw (prefix-edge r t e m h, ← g, ← edge-is k) f

@@ -1,4 +1,5 @@
 // The fields of a line. Each is written at the head of dest as far as there is room, and its length is answered.
+use model::EdgeKind;
 ghost use mathlib.Core.Path.{_≡_};
 ghost use Prim.Native.Nat.{_+_, _*_, _≤_, _<_};
 ghost use lib.ListN.{length, getD};
@@ -136,11 +137,13 @@ pub(crate) fn edge_field(rec: &[u8], dest: &mut [u8]) -> usize
     ensures length { λ r. ⌜ (r ≡ length (edgeField (now (rec .entry)))) × (r ≤ 129) ⌝ }
     ensures written { λ r. ⌜ now (dest .exit) ≡ into (edgeField (now (rec .entry))) (now (dest .entry)) ⌝ }
 {
-    if records::is_no_edge(rec) {
-        records::copy(b"-\n", dest);
-        return 2;
+    match records::edge_kind(rec) {
+        EdgeKind::Prefix(_) => key_field(records::key_bytes(rec), b'.', b'\n', dest),
+        EdgeKind::Absent => {
+            records::copy(b"-\n", dest);
+            2
+        }
     }
-    key_field(records::key_bytes(rec), b'.', b'\n', dest)
 }
 
 // A number below 100 and the byte that ends its field.

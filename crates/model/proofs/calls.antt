@@ -3,6 +3,7 @@ pub mod TableCalls
 pub mod TableAnswers
 pub mod KeyCalls
 pub mod CutCalls
+pub mod CutPlaces
 pub mod InsertionCalls
 pub mod JoinCalls
 pub mod Writing

@@ -1,3 +1,4 @@
 pub mod Places
+pub mod EdgeKinds
 pub mod Written
 pub mod CutSlot

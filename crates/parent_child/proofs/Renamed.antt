@@ -28,7 +28,7 @@ use Rattle.model.proofs.records.Records.{length-encodeAll, elements-encodeAll}
 use Rattle.model.proofs.ranges.RangePrefix.{prefix-of-left}
 use Rattle.model.proofs.calls.Refusals.{refused-by, passed, none-here, accepted, refused}
 use Rattle.model.proofs.calls.TableCalls.{not-too-long, element-at}
-use Rattle.parent_child.specs.Under.{Slot, newRange, longCauses}
+use Rattle.parent_child.specs.Under.{Slot, newRange, longRangeCauses}
 
 -- ---- bounds that are written over as many bytes
 
@@ -87,7 +87,7 @@ module _ (l r x k q d : List ℕ) (n : ℕ) (a : Answer) (e : a ≡ pivotPairAns
   left-short = rw f (s .left)
 
   -- only 8 may apply
-  only-long : {A : Type 0} (t : Refusal → A) (v : A) → outcome t (pivotPairCauses k r (take n k) q d) v ≡ outcome t (longCauses (newRange l r x)) v
+  only-long : {A : Type 0} (t : Refusal → A) (v : A) → outcome t (pivotPairCauses k r (take n k) q d) v ≡ outcome t (longRangeCauses (newRange l r x)) v
   unfolding outcome
   only-long t v =
       let p : length (take n k) ≤ maxLen = omega (arith, left-short, prefix-length (take n k) k begins) in
@@ -107,22 +107,22 @@ module _ (l r x k q d : List ℕ) (n : ℕ) (a : Answer) (e : a ≡ pivotPairAns
       )
 
   -- so it alone makes the answer
-  made : a ≡ answer (longCauses (newRange l r x)) 2
+  made : a ≡ answer (longRangeCauses (newRange l r x)) 2
   made = e ∙ only-long answers.Refused (answers.Value 2)
 
   -- its refusal is handed on
-  pub long-told : (y : Refusal) (v : Bool) → a ≡ answers.Refused y → decided.Refused y ≡ decision (longCauses (newRange l r x)) v
-  long-told y v i = refused-by decided.Refused (yesOrNo v) (decided.Refused y) _ y (refused (longCauses (newRange l r x)) 2 a made y i) refl
+  pub long-told : (y : Refusal) (v : Bool) → a ≡ answers.Refused y → decided.Refused y ≡ decision (longRangeCauses (newRange l r x)) v
+  long-told y v i = refused-by decided.Refused (yesOrNo v) (decided.Refused y) _ y (refused (longRangeCauses (newRange l r x)) 2 a made y i) refl
 
   -- else the new bounds stand in the two records
   pub short-told : (c w : List ℕ) (m : ℕ) (y : Decided) → y ≡ yesOrNo (ContainsRange (elements c) (element (recordAt w 0)) (element (recordAt w 1)))
       → w ≡ pivotPairLeaves k r (take n k) q d → a ≡ answers.Value m
-      → y ≡ decision (longCauses (newRange l r x)) (ContainsRange (elements c) (newRange l r x .left) (newRange l r x .right))
+      → y ≡ decision (longRangeCauses (newRange l r x)) (ContainsRange (elements c) (newRange l r x .left) (newRange l r x .right))
   short-told c w m y o j i =
-      let none-long = accepted (longCauses (newRange l r x)) 2 a made m i in
+      let none-long = accepted (longRangeCauses (newRange l r x)) 2 a made m i in
       let short-both = none-here (longBounds (newRange l r x)) TooLong [] none-long in
       let old = over (encodeAll (bothBounds (newBounds k r (take n k) q))) d in
-      let leaves-old : w ≡ old = j ∙ only-long (λ (_ : Refusal). d) old ∙ sym (passed (λ (_ : Refusal). d) old old (longCauses (newRange l r x)) none-long refl) in
+      let leaves-old : w ≡ old = j ∙ only-long (λ (_ : Refusal). d) old ∙ sym (passed (λ (_ : Refusal). d) old old (longRangeCauses (newRange l r x)) none-long refl) in
       let leaves-both : w ≡ over (encodeAll (bothBounds (newRange l r x))) d = leaves-old ∙ ap (λ (b : Bounds). over (encodeAll (bothBounds b)) d) bounds in
       passed decided.Refused _ y _ none-long
       (rw (left-read (newRange l r x) short-both d w z leaves-both, right-read (newRange l r x) short-both d w z leaves-both) at o)

@@ -27,10 +27,10 @@ unfoldable pub newRange : List ℕ → List ℕ → List ℕ → Bounds
 newRange l r x = boundsUnder (key (keyBytes l)) (element r) (edge (keyBytes x))
 
 -- cause 8
-abbrev pub longCauses : Bounds → List Cause
-longCauses b = (longBounds b ⇒ TooLong) ∷ []
+abbrev pub longRangeCauses : Bounds → List Cause
+longRangeCauses b = (longBounds b ⇒ TooLong) ∷ []
 
 -- causes 6 and 8 of a parent's pivots p and edges e
-abbrev pub slotCauses : List ℕ → List ℕ → ℕ → List Cause
-slotCauses p e slot =
-    (not (ltb slot (length (edges e))) ⇒ NoSuchSlot) ∷ longCauses (slotBounds (elements p) (edges e) slot)
+abbrev pub askedCauses : List ℕ → List ℕ → ℕ → List Cause
+askedCauses p e slot =
+    (not (ltb slot (length (edges e))) ⇒ NoSuchSlot) ∷ longRangeCauses (slotBounds (elements p) (edges e) slot)

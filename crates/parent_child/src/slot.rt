@@ -1,6 +1,7 @@
 // The range of a slot, and whether a child holds it.
 use model::Answer;
 use model::Decided;
+use model::EdgeKind;
 use model::RECORD_SIZE;
 use model::Refusal;
 ghost use mathlib.Core.Path.{_≡_};
@@ -12,7 +13,7 @@ ghost use Rattle.model.specs.tables.Tables.{WFPivots, ContainsRange};
 ghost use Rattle.model.specs.translation.ParentChild.{ParentKeysInChildRange};
 ghost use Rattle.model.specs.calls.Refusals.{first, yesOrNo, decision};
 ghost use Rattle.model.specs.calls.ParentChildCalls.{threeTablesCauses};
-ghost use Rattle.parent_child.specs.Under.{Slot, newRange, longCauses, slotCauses};
+ghost use Rattle.parent_child.specs.Under.{Slot, newRange, longRangeCauses, askedCauses};
 
 // Whether the child holds the range between what two records stand for.
 fn ask_range(child: &[u8], left: &[u8], right: &[u8]) -> Decided
@@ -44,11 +45,11 @@ fn ask_pair(child: &[u8], pair: &[u8]) -> Decided
 // Whether the child holds the range between two pivots, the range's prefix changed to the edge. Refuses 8.
 fn ask_under(child: &[u8], left: &[u8], right: &[u8], edge: &[u8]) -> Decided
     requires { ⌜ (WFPivots (elements (now child)) ≡ true) × (Slot (now left) (now right) (now edge)) ⌝ }
-    ensures { λ r. ⌜ r ≡ decision (longCauses (newRange (now (left .entry)) (now (right .entry)) (now (edge .entry)))) (ContainsRange (elements (now (child .entry))) (newRange (now (left .entry)) (now (right .entry)) (now (edge .entry)) .left) (newRange (now (left .entry)) (now (right .entry)) (now (edge .entry)) .right)) ⌝ }
+    ensures { λ r. ⌜ r ≡ decision (longRangeCauses (newRange (now (left .entry)) (now (right .entry)) (now (edge .entry)))) (ContainsRange (elements (now (child .entry))) (newRange (now (left .entry)) (now (right .entry)) (now (edge .entry)) .left) (newRange (now (left .entry)) (now (right .entry)) (now (edge .entry)) .right)) ⌝ }
 {
     let from = records::key_bytes(left);
     let n = range_prefix::range_prefix_len(from, right);
-    let mut made = [0u8; 132];
+    let mut made = [0u8; 2 * RECORD_SIZE];
     match pivot_pair::translate_pivot_pair(
         from,
         right,
@@ -69,7 +70,7 @@ pub(crate) fn ask_slot(
     slot: usize,
 ) -> Decided
     requires { ⌜ first (threeTablesCauses (now «parent_pivots») (now «parent_edges») (now «child_pivots»)) ≡ none ⌝ }
-    ensures { λ r. ⌜ r ≡ decision (slotCauses (now («parent_pivots» .entry)) (now («parent_edges» .entry)) slot) (ParentKeysInChildRange (elements (now («parent_pivots» .entry))) (edges (now («parent_edges» .entry))) (elements (now («child_pivots» .entry))) slot) ⌝ }
+    ensures { λ r. ⌜ r ≡ decision (askedCauses (now («parent_pivots» .entry)) (now («parent_edges» .entry)) slot) (ParentKeysInChildRange (elements (now («parent_pivots» .entry))) (edges (now («parent_edges» .entry))) (elements (now («child_pivots» .entry))) slot) ⌝ }
 {
     if parent_edges.len() / RECORD_SIZE <= slot {
         return Decided::Refused(Refusal::NoSuchSlot);
@@ -77,8 +78,8 @@ pub(crate) fn ask_slot(
     let left = records::record_at(parent_pivots, slot);
     let right = records::record_at(parent_pivots, slot + 1);
     let edge = records::record_at(parent_edges, slot);
-    if records::is_no_edge(edge) {
-        return ask_range(child_pivots, left, right);
+    match records::edge_kind(edge) {
+        EdgeKind::Prefix(_) => ask_under(child_pivots, left, right, edge),
+        EdgeKind::Absent => ask_range(child_pivots, left, right),
     }
-    ask_under(child_pivots, left, right, edge)
 }

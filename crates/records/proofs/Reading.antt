@@ -13,8 +13,11 @@ use mir.Val.{Fits}
 use mir.Syntax.{w64}
 use Rattle.model.specs.declared.Reading.{Reading}
 use Rattle.model.specs.declared.Reading.the-variants.{Key, Malformed, NoEdge, Max}
+use Rattle.model.specs.declared.EdgeKind.the-variants.{Prefix, Absent}
 use Rattle.model.specs.keys.Key.{maxLen}
 use Rattle.model.specs.records.Record.{lengthField, noEdgeMark, maxMark, fieldReading, keyLength, reading, allZero, keyBytes, allowed, recordSize, records}
+use Rattle.model.specs.records.Record.{edgeOf}
+use Rattle.model.specs.inner.EdgeKinds.{edgeKind}
 use Rattle.model.specs.inner.Places.{recordAt}
 use Rattle.model.proofs.Lists.{take-min}
 use Rattle.model.proofs.records.Records.{length-pieces, piece-at}
@@ -110,6 +113,17 @@ module _ (r : List ℕ) (n : ℕ) (w : Reading) (e : n ≡ lengthField r) (f : w
 pub mark-told : (r : List ℕ) (n mark : ℕ) → n ≡ lengthField r → eqb n mark ≡ eqb (lengthField r) mark
 mark-told r n mark e = rw e
 
+-- ---- the kind of an edge
+
+module _ (r : List ℕ) (n : ℕ) (e : n ≡ lengthField r) where
+  pub kind-absent : n ≡ 65534 → Absent ≡ edgeKind r
+  unfolding edgeKind edgeOf
+  kind-absent h = rw (← e, h)
+
+  pub kind-prefix : (k : List ℕ) → (n ≡ 65534 → ⊥) → k ≡ keyBytes r → Prefix (length k) ≡ edgeKind r
+  unfolding edgeKind edgeOf
+  kind-prefix k h g = rw (← e, ne-eqb n 65534 h, g)
+
 -- ---- the key's bytes
 
 pub no-bytes : (r : List ℕ) → length r < 2 → [] ≡ keyBytes r
@@ -132,3 +146,7 @@ module _ (l : List ℕ) (i : ℕ) where
   pub record-part : i < length l / 66 → take (i * 66 + 66 - i * 66) (drop (i * 66) l) ≡ recordAt l i
   unfolding records
   record-part h = rw (add-sub-cancel-left, piece-at recordSize (length l / 66) i l h)
+
+-- none after the last one either
+pub past-after : (l : List ℕ) (i : ℕ) → length l / 66 ≤ i → [] ≡ recordAt l (i + 1)
+past-after l i h = past-records l (i + 1) (omega arith)

@@ -1,10 +1,16 @@
 // What a record says.
+use model::EdgeKind;
+use model::MAX_MARK;
+use model::NO_EDGE_MARK;
 use model::RECORD_SIZE;
 use model::Reading;
 ghost use mathlib.Core.Path.{_≡_};
+ghost use mathlib.Core.Bool.{false};
 ghost use Prim.Native.Nat.{_+_, _≤_, _<_};
 ghost use lib.Dec.{eqb};
-ghost use Rattle.model.specs.records.Record.{lengthField, fieldReading, keyLength, reading, keyBytes, allowed, elementReading, edgeReading, noEdgeMark, maxMark};
+ghost use Rattle.model.specs.keys.Key.{maxLen};
+ghost use Rattle.model.specs.records.Record.{lengthField, fieldReading, keyLength, reading, keyBytes, allowed, keyReading, elementReading, edgeReading, noEdgeMark, maxMark};
+ghost use Rattle.model.specs.inner.EdgeKinds.{edgeKind};
 ghost use Rattle.model.specs.inner.Places.{recordAt};
 
 fn wide16(x: u8) -> u16
@@ -28,7 +34,7 @@ pub fn length_field(rec: &[u8]) -> u16
 
 // Which of the two marks a length field is.
 fn mark(n: u16) -> Reading
-    requires { ⌜ 65534 ≤ n ⌝ }
+    requires { ⌜ noEdgeMark ≤ n ⌝ }
     ensures { λ r. ⌜ r ≡ fieldReading n ⌝ }
 {
     match n {
@@ -51,7 +57,7 @@ pub fn field_reading(n: u16) -> Reading
 
 // The place in a record from which on all must be zero, by how its length field is read.
 fn tail_of(way: Reading) -> usize
-    requires { ⌜ keyLength way ≤ 64 ⌝ }
+    requires { ⌜ keyLength way ≤ maxLen ⌝ }
     ensures { λ r. ⌜ r ≡ 2 + keyLength way ⌝ }
 {
     match way {
@@ -77,14 +83,7 @@ pub fn read_record(rec: &[u8]) -> Reading
 pub fn is_max(rec: &[u8]) -> bool
     ensures { λ r. ⌜ r ≡ eqb (lengthField (now (rec .entry))) maxMark ⌝ }
 {
-    length_field(rec) == 65535
-}
-
-// Whether an edge record says "no edge", by its length field.
-pub fn is_no_edge(rec: &[u8]) -> bool
-    ensures { λ r. ⌜ r ≡ eqb (lengthField (now (rec .entry))) noEdgeMark ⌝ }
-{
-    length_field(rec) == 65534
+    length_field(rec) == MAX_MARK
 }
 
 // Whether a reading is allowed: a key, and each mark where it may stand.
@@ -100,7 +99,7 @@ fn allows(way: Reading, empty: bool, max: bool) -> bool
 }
 
 // Whether a record is a key's or, where they are allowed, "no edge" or max.
-pub fn holds(rec: &[u8], empty: bool, max: bool) -> bool
+fn holds(rec: &[u8], empty: bool, max: bool) -> bool
     ensures { λ r. ⌜ r ≡ allowed empty max (reading (now (rec .entry))) ⌝ }
 {
     let way = field_reading(length_field(rec));
@@ -108,6 +107,20 @@ pub fn holds(rec: &[u8], empty: bool, max: bool) -> bool
         return false;
     }
     scan::zero_from(rec, tail_of(way))
+}
+
+// Whether a record is a key's.
+pub fn holds_key(rec: &[u8]) -> bool
+    ensures { λ r. ⌜ r ≡ keyReading (reading (now (rec .entry))) ⌝ }
+{
+    holds(rec, false, false)
+}
+
+// Whether a record is a key's or, as that of the last pivot may be, max.
+pub fn holds_pivot(rec: &[u8], last: bool) -> bool
+    ensures { λ r. ⌜ r ≡ allowed false last (reading (now (rec .entry))) ⌝ }
+{
+    holds(rec, false, last)
 }
 
 // Whether a record is a key's or max.
@@ -137,6 +150,16 @@ pub fn key_bytes(rec: &[u8]) -> &[u8]
     &rec[2..end]
 }
 
+// What kind of edge a record stands for, by its length field.
+pub fn edge_kind(rec: &[u8]) -> EdgeKind
+    ensures { λ r. ⌜ r ≡ edgeKind (now (rec .entry)) ⌝ }
+{
+    if length_field(rec) == NO_EDGE_MARK {
+        return EdgeKind::Absent;
+    }
+    EdgeKind::Prefix(key_bytes(rec).len())
+}
+
 // The record at a place among several, as a part of them; an empty part where there are fewer.
 pub fn record_at(bytes: &[u8], i: usize) -> &[u8]
     ensures { λ r. ⌜ now r ≡ recordAt (now (bytes .entry)) i ⌝ }
@@ -147,4 +170,14 @@ pub fn record_at(bytes: &[u8], i: usize) -> &[u8]
     let at = i * RECORD_SIZE;
     let end = at + RECORD_SIZE;
     &bytes[at..end]
+}
+
+// The record after that at a place; an empty part where there is none.
+pub fn record_after(bytes: &[u8], i: usize) -> &[u8]
+    ensures { λ r. ⌜ now r ≡ recordAt (now (bytes .entry)) (i + 1) ⌝ }
+{
+    if bytes.len() / RECORD_SIZE <= i {
+        return &bytes[..0];
+    }
+    record_at(bytes, i + 1)
 }

@@ -1,20 +1,22 @@
 -- The filled edges of a table that has none of the causes 1 to 4, by their records: each made in its slot, and all written in turn.
 use mathlib.Core.Path.{_≡_, refl, sym, ap, _∙_}
-use mathlib.Core.Bool.{Bool, true, false, cond}
+use mathlib.Core.Bool.{true, false}
 use mathlib.Core.List.{List, [], _++_, append-nil}
 use mathlib.Core.Option.{none}
 use Prim.Native.Nat.{ℕ, _+_, _*_, _-_, _/_, _≤_, _<_}
 use native.Mathlib.Omega.{arith}
 use borrow.Author.Tests.{leb-true, lt-ltb, le-ltb}
 use borrow.Rule.Slice.PartMut.{putMid}
-use lib.Dec.{eqb}
 use lib.ListN.{length, take, drop}
 use Rattle.model.specs.declared.Refusal.{Refusal}
 use Rattle.model.specs.declared.Refusal.the-variants.{NoRoom}
+use Rattle.model.specs.declared.EdgeKind.{EdgeKind}
+use Rattle.model.specs.declared.EdgeKind.the-variants as kinds
 use Rattle.model.specs.keys.Key.{maxLen}
 use Rattle.model.specs.keys.Order.{key}
-use Rattle.model.specs.records.Record.{edge, noEdge, recordSize, noEdgeMark, lengthField, keyBytes, element, edgeOf, elements, edges}
+use Rattle.model.specs.records.Record.{edge, noEdge, recordSize, keyBytes, element, edgeOf, elements, edges}
 use Rattle.model.specs.records.Record.{recordOf, encodeEdge, encodeEdges}
+use Rattle.model.specs.inner.EdgeKinds.{edgeKind}
 use Rattle.model.specs.inner.Places.{recordAt}
 use Rattle.model.specs.ranges.RangePrefix.{PivotLcp}
 use Rattle.model.specs.tables.Tables.{edgeAt, all, shortEdge}
@@ -26,7 +28,7 @@ use Rattle.model.proofs.Lists.{all-at}
 use Rattle.model.proofs.calls.Refusals.{here, later, done, after}
 use Rattle.model.proofs.keys.Key.{prefix-is-take}
 use Rattle.model.proofs.ranges.RangePrefix.{prefix-of-left}
-use Rattle.model.proofs.records.Record.{length-encodeEdge}
+use Rattle.model.proofs.records.Record.{length-encodeEdge, absent-edge, prefix-edge}
 use Rattle.model.proofs.records.InTurn.{turn-start, turn-next, turn-end}
 use Rattle.model.proofs.tables.Routing.{wf-all-short}
 use Rattle.model.proofs.calls.TableCalls.{length-elements, length-edges, element-at, edge-at}
@@ -60,19 +62,14 @@ module _ (p e : List ℕ) (h : first (tableCauses false false p e) ≡ none) whe
         edges-at (edges e) (elements p) (table-count _ _ p e h) i (omega (arith, length-edges e))
         ∙ rw (key-at p (table-wf _ _ p e h) i pivots-here, element-at p (i + 1) pivots-here, edge-at e i m)
 
-    module _ (a : List ℕ) (t : Bool) (g : a ≡ recordAt e i) (f : t ≡ eqb (lengthField a) noEdgeMark) where
-      -- whether there is an edge
-      edge-is : edgeOf (recordAt e i) ≡ cond t noEdge (edge (keyBytes a))
-      unfolding edgeOf
-      edge-is = rw (f, g)
-
+    module _ (a : List ℕ) (t : EdgeKind) (g : a ≡ recordAt e i) (f : t ≡ edgeKind a) where
       -- where there is no edge, the prefix of the range is made
-      module _ (u : t ≡ true) (b x s : List ℕ) (n : ℕ) (j : b ≡ recordAt p i) (o : x ≡ keyBytes b) (l : s ≡ recordAt p (i + 1))
+      module _ (u : t ≡ kinds.Absent) (b x s : List ℕ) (n : ℕ) (j : b ≡ recordAt p i) (o : x ≡ keyBytes b) (l : s ≡ recordAt p (i + 1))
           (c : n ≡ length (PivotLcp (key x) (element s))) where
         -- the filled edge is the part of the left key that the prefix is
         prefix-is : edgeAt (newEdges p e) i ≡ edge (take n x)
         unfolding filled
-        prefix-is = filled-here ∙ rw (edge-is, u, ← j, ← o, ← l, c) (ap edge (sym (prefix-is-take _ x (prefix-of-left x (element s)))))
+        prefix-is = filled-here ∙ rw (← g, absent-edge a t f u, ← j, ← o, ← l, c) (ap edge (sym (prefix-is-take _ x (prefix-of-left x (element s)))))
 
         prefix-short : length (take n x) ≤ maxLen
         prefix-short = leb-true (length (take n x)) maxLen (rw prefix-is at short-here)
@@ -88,11 +85,11 @@ module _ (p e : List ℕ) (h : first (tableCauses false false p e) ≡ none) whe
         prefix-made d w f = f ∙ rw (prefix-is, append-nil)
 
       -- where there is one, it is made again
-      module _ (u : t ≡ false) (k : List ℕ) (o : k ≡ keyBytes a) where
+      module _ (y : ℕ) (u : t ≡ kinds.Prefix y) (k : List ℕ) (o : k ≡ keyBytes a) where
         -- the filled edge is the edge itself
         kept-is : edgeAt (newEdges p e) i ≡ edge k
         unfolding filled
-        kept-is = filled-here ∙ rw (edge-is, u, o)
+        kept-is = filled-here ∙ rw (← g, prefix-edge a t f y u, o)
 
         kept-short : length k ≤ maxLen
         kept-short = leb-true (length k) maxLen (rw kept-is at short-here)

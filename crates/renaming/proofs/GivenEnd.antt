@@ -30,7 +30,7 @@ use Rattle.model.proofs.records.Records.{joined-append, length-encodeAll}
 use Rattle.model.proofs.records.InTurn.{over-on}
 use Rattle.model.proofs.calls.Refusals.{here, later, done, after, handed-on-first, call-passed-first, accepted}
 use Rattle.model.proofs.calls.TableCalls.{length-elements, causes-shape, causes-wrong, causes-wf, causes-whole, causes-least}
-use Rattle.renaming.specs.Change.{changedPivots, changeCauses, endCauses, Changeable, Given}
+use Rattle.renaming.specs.Change.{changedPivots, changeableCauses, endCauses, Changeable, Given}
 use Rattle.renaming.proofs.KeyPass.{but-count}
 use Rattle.renaming.proofs.NewPivots.{changed-count, changed-short}
 
@@ -177,21 +177,21 @@ module _ (v p q n : List ℕ) (h : Given v p q n) where
       room-for k l y = later f w x _ NotBelow _ (rw (← e) k) (later f w x _ NoRoom [] (rw new-size (le-ltb (length d) (length v) l)) (done f w x y))
 
     -- the causes 7 and 8 are those of the changed pivots
-    together : outcome f (pivotsCauses v p q n d) w ≡ outcome f (changeCauses v p q ++ endCauses v p q n d) w
+    together : outcome f (pivotsCauses v p q n d) w ≡ outcome f (changeableCauses v p q ++ endCauses v p q n d) w
     together = sym (after f w _ (pivotCauses (notRecord n) (tooLong p || tooLong q || notElement n) v) _ h (rw only-changed))
 
-    module _ (z : Answer) (m : ℕ) (e : z ≡ answer (changeCauses v p q) m) where
+    module _ (z : Answer) (m : ℕ) (e : z ≡ answer (changeableCauses v p q) m) where
       -- a key that is refused decides
       pub keys-refused : (r : Refusal) → z ≡ answers.Refused r → x ≡ f r → x ≡ outcome f (pivotsCauses v p q n d) w
-      keys-refused r k y = rw together (handed-on-first (changeCauses v p q) m z e f w x _ r k y)
+      keys-refused r k y = rw together (handed-on-first (changeableCauses v p q) m z e f w x _ r k y)
 
       -- where none is, the end and the destination decide
       pub keys-passed : (l : ℕ) → z ≡ answers.Value l → x ≡ outcome f (endCauses v p q n d) w → x ≡ outcome f (pivotsCauses v p q n d) w
-      keys-passed l k y = rw together (call-passed-first (changeCauses v p q) m z e f w x _ l k y)
+      keys-passed l k y = rw together (call-passed-first (changeableCauses v p q) m z e f w x _ l k y)
 
   -- and the prefix can be changed
-  pub keys-changeable : (z : Answer) (m l : ℕ) → z ≡ answer (changeCauses v p q) m → z ≡ answers.Value l → Changeable v p q
-  keys-changeable z m l e k = record { wf = given-wf; none-applies = accepted (changeCauses v p q) m z e l k }
+  pub keys-changeable : (z : Answer) (m l : ℕ) → z ≡ answer (changeableCauses v p q) m → z ≡ answers.Value l → Changeable v p q
+  keys-changeable z m l e k = record { wf = given-wf; none-applies = accepted (changeableCauses v p q) m z e l k }
 
 -- ---- the check of the pivots with the other arguments
 

@@ -26,7 +26,7 @@ use Rattle.model.proofs.tables.Routing.{wf-count}
 use Rattle.model.proofs.calls.Refusals.{here, later, done}
 use Rattle.model.proofs.calls.TableCalls.{length-elements}
 use Rattle.model.proofs.calls.PivotKeys.{key-at}
-use Rattle.renaming.specs.Change.{changedPivots, changeCauses}
+use Rattle.renaming.specs.Change.{changedPivots, changeableCauses}
 
 -- ---- the pivots but the last
 
@@ -81,7 +81,7 @@ module _ (v p q : List ℕ) where
       short-on = w .short ∙ rw (here-key, changed-fits p q k (w .room), and-assoc)
 
       -- a key that lacks the prefix is refused
-      pub not-begun : (n : ℕ) → not t ≡ true → Refused NotPrefix ≡ answer (changeCauses v p q) n
+      pub not-begun : (n : ℕ) → not t ≡ true → Refused NotPrefix ≡ answer (changeableCauses v p q) n
       not-begun n h = here Refused _ _ _ NotPrefix _ (rw (begin-on, not-true t h)) refl
 
       -- one that has it is passed
@@ -106,11 +106,11 @@ module _ (v p q : List ℕ) where
       all-short = rw (w .short, none-left)
 
       -- a key that did not fit is refused
-      pub pass-long : not fit ≡ true → Refused TooLong ≡ answer (changeCauses v p q) n
+      pub pass-long : not fit ≡ true → Refused TooLong ≡ answer (changeableCauses v p q) n
       pass-long h = later Refused _ _ _ NotPrefix _ all-begin (here Refused _ _ _ TooLong _ (rw (all-short, not-true fit h)) refl)
 
       -- else neither cause applies
-      pub pass-done : not fit ≡ false → Value n ≡ answer (changeCauses v p q) n
+      pub pass-done : not fit ≡ false → Value n ≡ answer (changeableCauses v p q) n
       pass-done h = later Refused _ _ _ NotPrefix _ all-begin (later Refused _ _ _ TooLong _ (rw (all-short, not-false fit h)) (done Refused _ _ refl))
 
 -- ---- one key more

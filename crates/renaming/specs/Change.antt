@@ -21,8 +21,8 @@ abbrev pub changedPivots : List ℕ → Key → Key → PivotTable
 changedPivots v p q = map (TranslateElement p q) (butLast (elements v))
 
 -- causes 7 and 8, but for the given end
-abbrev pub changeCauses : List ℕ → Key → Key → List Cause
-changeCauses v p q =
+abbrev pub changeableCauses : List ℕ → Key → Key → List Cause
+changeableCauses v p q =
     (not (all (begun p) (butLast (elements v))) ⇒ NotPrefix) ∷
     (not (all shortElement (changedPivots v p q)) ⇒ TooLong) ∷ []
 
@@ -35,7 +35,7 @@ endCauses v p q n d =
 -- the pivots are well formed, and neither 7 nor 8 applies
 pub record Changeable (v : List ℕ) (p q : Key) : Type 0 where
   pub wf : WFPivots (elements v) ≡ true
-  pub none-applies : first (changeCauses v p q) ≡ none
+  pub none-applies : first (changeableCauses v p q) ≡ none
 
 -- none of the causes 1 to 3 applies
 abbrev pub Given : List ℕ → Key → Key → List ℕ → Type 0

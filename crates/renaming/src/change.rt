@@ -9,11 +9,12 @@ ghost use mathlib.Core.Bool.{true, _&&_};
 ghost use Prim.Native.Nat.{_+_, _/_, _≤_, _<_};
 ghost use lib.Dec.{leb};
 ghost use lib.ListN.{length};
+ghost use Rattle.model.specs.keys.Key.{maxLen};
 ghost use Rattle.model.specs.records.Record.{recordSize, elements, encode, encodeAll};
 ghost use Rattle.model.specs.tables.Tables.{pivotAt, WFPivots};
 ghost use Rattle.model.specs.translation.Renaming.{TranslateElement};
 ghost use Rattle.model.specs.calls.Refusals.{answer, over};
-ghost use Rattle.renaming.specs.Change.{changedPivots, changeCauses, Changeable};
+ghost use Rattle.renaming.specs.Change.{changedPivots, changeableCauses, Changeable};
 
 // Whether keys that fit so far fit with one of n bytes.
 fn fits_too(fit: bool, n: usize, most: usize) -> bool
@@ -28,8 +29,8 @@ fn fits_too(fit: bool, n: usize, most: usize) -> bool
 // Causes 7 and 8, in one pass: each pivot but the last begins with the prefix, and has at most 64 bytes once it is
 // changed.
 pub(crate) fn check_keys(pivots: &[u8], prefix: &[u8], new_prefix: &[u8]) -> Answer
-    requires { ⌜ (WFPivots (elements (now pivots)) ≡ true) × (length (now prefix) ≤ 64) × (length (now «new_prefix») ≤ 64) ⌝ }
-    ensures { λ r. ⌜ r ≡ answer (changeCauses (now (pivots .entry)) (now (prefix .entry)) (now («new_prefix» .entry))) (length (now (pivots .entry)) / recordSize) ⌝ }
+    requires { ⌜ (WFPivots (elements (now pivots)) ≡ true) × (length (now prefix) ≤ maxLen) × (length (now «new_prefix») ≤ maxLen) ⌝ }
+    ensures { λ r. ⌜ r ≡ answer (changeableCauses (now (pivots .entry)) (now (prefix .entry)) (now («new_prefix» .entry))) (length (now (pivots .entry)) / recordSize) ⌝ }
 {
     let count = pivots.len() / RECORD_SIZE;
     let most = MAX_LEN - new_prefix.len() + prefix.len();

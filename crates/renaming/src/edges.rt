@@ -1,6 +1,7 @@
 // The edges with each absent one filled.
 use crate::record::put_joined;
 use model::Answer;
+use model::EdgeKind;
 use model::RECORD_SIZE;
 use model::Refusal;
 ghost use mathlib.Core.Path.{_≡_};
@@ -20,14 +21,17 @@ fn put_filled(pivots: &[u8], edges: &[u8], i: usize, dest: &mut [u8])
     ensures { λ _. ⌜ now (dest .exit) ≡ over (encodeEdge (edgeAt (newEdges (now (pivots .entry)) (now (edges .entry))) i)) (now (dest .entry)) ⌝ }
 {
     let old = records::record_at(edges, i);
-    if records::is_no_edge(old) {
-        let from = records::key_bytes(records::record_at(pivots, i));
-        let n = range_prefix::range_prefix_len(from, records::record_at(pivots, i + 1));
-        put_joined(&from[..n], &from[..0], dest);
-        return;
+    match records::edge_kind(old) {
+        EdgeKind::Prefix(_) => {
+            let k = records::key_bytes(old);
+            put_joined(k, &k[..0], dest);
+        }
+        EdgeKind::Absent => {
+            let from = records::key_bytes(records::record_at(pivots, i));
+            let n = range_prefix::range_prefix_len(from, records::record_at(pivots, i + 1));
+            put_joined(&from[..n], &from[..0], dest);
+        }
     }
-    let k = records::key_bytes(old);
-    put_joined(k, &k[..0], dest);
 }
 
 // The records of the filled edges, slot by slot.

@@ -37,7 +37,7 @@ fn ends_above(pivots: &[u8], prefix: &[u8], new_prefix: &[u8], end: &[u8]) -> bo
     ensures { λ r. ⌜ r ≡ lt (lastTranslated (now (pivots .entry)) (now (prefix .entry)) (now («new_prefix» .entry))) (element (now (end .entry))) ⌝ }
 {
     let last = pivots.len() / RECORD_SIZE - 2;
-    let mut made = [0u8; 66];
+    let mut made = [0u8; RECORD_SIZE];
     put_pivot(pivots, prefix, new_prefix, last, &mut made);
     keys::is_below(&made, end)
 }

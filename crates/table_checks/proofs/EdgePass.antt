@@ -6,16 +6,19 @@ use Prim.Native.Nat.{ℕ, zero, suc, _+_, _/_, _≤_, _<_}
 use native.Mathlib.Numerals.{add-one}
 use native.Mathlib.Omega.{arith}
 use borrow.Author.Tests.{not-true, not-false, eq-eqb, ne-eqb}
-use lib.Dec.{eqb}
 use lib.ListN.{length, drop, getD, drop-of-length-le}
 use lib.Seq.{drop-cons}
+use Rattle.model.specs.declared.EdgeKind.{EdgeKind}
+use Rattle.model.specs.declared.EdgeKind.the-variants as kinds
 use Rattle.model.specs.keys.Key.{Key, isNil}
 use Rattle.model.specs.keys.Order.{Element, max}
-use Rattle.model.specs.records.Record.{Edge, edge, noEdge, noEdgeMark, recordSize, lengthField, reading, edgeReading, records, element, edgeOf, elements, edges}
+use Rattle.model.specs.records.Record.{Edge, noEdge, recordSize, reading, edgeReading, records, element, edgeOf, elements, edges}
+use Rattle.model.specs.inner.EdgeKinds.{edgeKind}
 use Rattle.model.specs.inner.Places.{recordAt}
 use Rattle.model.specs.ranges.RangePrefix.{PivotLcp}
 use Rattle.model.specs.tables.Tables.{PivotTable, EdgeTable, pivotAt, edgeAt, all, edgeFits, edgesFit, WFEdges}
 use Rattle.model.specs.calls.TableCalls.{edgesRead, edgesStand}
+use Rattle.model.proofs.records.Record.{absent-edge, prefix-edge}
 use Rattle.model.proofs.calls.TableCalls.{length-records, length-elements, length-edges, element-at, edge-at}
 
 -- ---- are they read as edges?
@@ -40,14 +43,13 @@ module _ (e : List ℕ) (i : ℕ) (w : edgesRead (records e) ≡ edgesRead (drop
 
 -- ---- may an edge stand there?
 
-module _ (a b e : List ℕ) (t : Bool) (m : t ≡ eqb (lengthField e) noEdgeMark) where
-  pub none-fits : t ≡ true → true ≡ edgeFits (PivotLcp (element a) (element b)) (edgeOf e)
-  unfolding edgeOf
-  none-fits h = rw (← m, h)
+module _ (a b e : List ℕ) (k : EdgeKind) (m : k ≡ edgeKind e) where
+  pub none-fits : k ≡ kinds.Absent → true ≡ edgeFits (PivotLcp (element a) (element b)) (edgeOf e)
+  none-fits h = rw (absent-edge e k m h)
 
-  pub prefix-fits : (u : Bool) → t ≡ false → u ≡ not (isNil (PivotLcp (element a) (element b))) → u ≡ edgeFits (PivotLcp (element a) (element b)) (edgeOf e)
-  unfolding edgeOf
-  prefix-fits u h g = rw (← m, h) g
+  pub prefix-fits : (n : ℕ) (u : Bool) → k ≡ kinds.Prefix n → u ≡ not (isNil (PivotLcp (element a) (element b)))
+      → u ≡ edgeFits (PivotLcp (element a) (element b)) (edgeOf e)
+  prefix-fits n u h g = rw (prefix-edge e k m n h) g
 
 -- the slot's records are those at its place
 pub slot-told : (p e a b c : List ℕ) (i : ℕ) (t : Bool) → a ≡ recordAt p i → b ≡ recordAt p (i + 1) → c ≡ recordAt e i

@@ -2,6 +2,7 @@
 use crate::pivots::check_pivots;
 use crate::pivots::not_pivot_count;
 use model::Answer;
+use model::EdgeKind;
 use model::RECORD_SIZE;
 use model::Refusal;
 ghost use mathlib.Core.Path.{_≡_};
@@ -53,10 +54,10 @@ fn edges_read(edges: &[u8]) -> bool
 fn edge_fits(left: &[u8], right: &[u8], edge: &[u8]) -> bool
     ensures { λ r. ⌜ r ≡ edgeFits (PivotLcp (element (now (left .entry))) (element (now (right .entry)))) (edgeOf (now (edge .entry))) ⌝ }
 {
-    if records::is_no_edge(edge) {
-        return true;
+    match records::edge_kind(edge) {
+        EdgeKind::Prefix(_) => range_prefix::has_range_prefix(left, right),
+        EdgeKind::Absent => true,
     }
-    range_prefix::has_range_prefix(left, right)
 }
 
 // Whether the edge of slot i may stand there.

@@ -47,14 +47,14 @@ fn read_pivots(pivots: &[u8]) -> Answer
     ensures { λ r. ⌜ r ≡ answer (pivotCauses false false (now (pivots .entry))) (length (now (pivots .entry)) / recordSize) ⌝ }
 {
     let count = pivots.len() / RECORD_SIZE;
-    if !records::holds(records::record_at(pivots, 0), false, false) {
+    if !records::holds_key(records::record_at(pivots, 0)) {
         return Answer::Refused(Refusal::Malformed);
     }
     let mut rises = true;
     let mut i = 0;
     while i + 1 < count {
         let last = i + 2 == count;
-        if !records::holds(records::record_at(pivots, i + 1), false, last) {
+        if !records::holds_pivot(records::record_at(pivots, i + 1), last) {
             return Answer::Refused(Refusal::Malformed);
         }
         rises = rises_on(pivots, i, rises);

@@ -1,21 +1,23 @@
 -- The pair of a key's slot, by the records of its pivots and its edge.
 use mathlib.Core.Path.{_≡_}
-use mathlib.Core.Bool.{Bool, true, false, cond}
+use mathlib.Core.Bool.{true, false}
 use mathlib.Core.List.{List, [], append-nil}
 use mathlib.Core.Option.{none}
 use Prim.Native.Nat.{ℕ, _+_, _≤_, _<_}
 use native.Mathlib.Omega.{arith}
 use borrow.Author.Tests.{leb-true}
-use lib.Dec.{eqb}
 use lib.ListN.{length, take, length-take}
 use Rattle.model.specs.declared.Refusal.{Refusal}
 use Rattle.model.specs.declared.Answer.{Answer}
 use Rattle.model.specs.declared.Answer.the-variants as answers
 use Rattle.model.specs.declared.Routed.{Routed}
 use Rattle.model.specs.declared.Routed.the-variants as routed
+use Rattle.model.specs.declared.EdgeKind.{EdgeKind}
+use Rattle.model.specs.declared.EdgeKind.the-variants as kinds
 use Rattle.model.specs.keys.Key.{maxLen}
 use Rattle.model.specs.keys.Order.{key}
-use Rattle.model.specs.records.Record.{noEdge, edge, noEdgeMark, lengthField, keyBytes, element, edgeOf, elements, edges}
+use Rattle.model.specs.records.Record.{keyBytes, element, edgeOf, elements, edges}
+use Rattle.model.specs.inner.EdgeKinds.{edgeKind}
 use Rattle.model.specs.inner.Places.{recordAt}
 use Rattle.model.specs.inner.Written.{clipped}
 use Rattle.model.specs.ranges.RangePrefix.{PivotLcp}
@@ -28,24 +30,20 @@ use Rattle.model.specs.calls.PairCalls.{thereNumber}
 use Rattle.model.specs.calls.TranslationCalls.{translateCauses, translateAnswer, translatePair}
 use Rattle.model.proofs.Lists.{clipped-all}
 use Rattle.model.proofs.keys.Key.{prefix-is-take}
+use Rattle.model.proofs.records.Record.{absent-edge, prefix-edge}
 use Rattle.model.proofs.ranges.RangePrefix.{prefix-of-left}
 use Rattle.model.proofs.calls.Refusals.{passed, slot-accepted, slot-is, slot-handed-on}
 use Rattle.model.proofs.calls.CutCalls.{cut-left-key, cut-right-element, cut-old-edge, cut-left-short, cut-edge-short, cut-slot-small}
 use Rattle.translation.specs.Translated.{slotPair}
 
--- the edge that a record stands for, by its mark
-pub edge-by : (r : List ℕ) (t : Bool) → t ≡ eqb (lengthField r) noEdgeMark → edgeOf r ≡ cond t noEdge (edge (keyBytes r))
-unfolding edgeOf
-edge-by r t m = rw m
-
 -- ---- the pair of slot c
 
-module _ (p e : List ℕ) (c : ℕ) (a : List ℕ) (t : Bool) (g : a ≡ recordAt e c) (m : t ≡ eqb (lengthField a) noEdgeMark) where
+module _ (p e : List ℕ) (c : ℕ) (a : List ℕ) (t : EdgeKind) (g : a ≡ recordAt e c) (m : t ≡ edgeKind a) where
   -- without an edge it is absent
-  module _ (u : t ≡ true) where
+  module _ (u : t ≡ kinds.Absent) where
     absent-is : slotPair p e c ≡ none
     unfolding edgePair
-    absent-is = rw (← g, edge-by a t m, u)
+    absent-is = rw (← g, absent-edge a t m u)
 
     pub absent-number : answers.Value 0 ≡ answers.Value (thereNumber (slotPair p e c))
     unfolding thereNumber
@@ -55,10 +53,10 @@ module _ (p e : List ℕ) (c : ℕ) (a : List ℕ) (t : Bool) (g : a ≡ recordA
     absent-pair z h = rw absent-is h
 
   -- with one it is the prefix of the slot's range and the edge
-  module _ (u : t ≡ false) where
+  module _ (f : ℕ) (u : t ≡ kinds.Prefix f) where
     there-is : slotPair p e c ≡ pair (PivotLcp (key (keyBytes (recordAt p c))) (element (recordAt p (c + 1)))) (keyBytes a)
     unfolding edgePair
-    there-is = rw (← g, edge-by a t m, u)
+    there-is = rw (← g, prefix-edge a t m f u)
 
     pub there-number : answers.Value 1 ≡ answers.Value (thereNumber (slotPair p e c))
     unfolding thereNumber
@@ -71,10 +69,10 @@ module _ (p e : List ℕ) (c : ℕ) (a : List ℕ) (t : Bool) (g : a ≡ recordA
 
       pub there-pair : (z : PairState) → length (keyBytes (recordAt p c)) ≤ maxLen → shortEdge (edgeOf (recordAt e c)) ≡ true
           → z ≡ stateOf (pair (clipped (take n x)) (clipped q)) → z ≡ stateOf (slotPair p e c)
-      there-pair z f v h =
-          let y : length x ≤ maxLen = rw (o, j) f in
+      there-pair z y v h =
+          let short : length x ≤ maxLen = rw (o, j) y in
           let d : length (take n x) ≤ maxLen = omega (arith, length-take n x) in
-          let i : length q ≤ maxLen = rw w (leb-true (length (keyBytes a)) maxLen (rw (← g, edge-by a t m, u) at v)) in
+          let i : length q ≤ maxLen = rw w (leb-true (length (keyBytes a)) maxLen (rw (← g, prefix-edge a t m f u) at v)) in
           rw there-is (rw (clipped-all (take n x) d, clipped-all q i, prefix-is, w) at h)
 
 -- ---- the slot of a key

@@ -1,5 +1,6 @@
 // The translation of a key by a table with its edges.
 use model::Answer;
+use model::EdgeKind;
 use model::Routed;
 ghost use mathlib.Core.Path.{_≡_};
 ghost use mathlib.Core.Bool.{false};
@@ -21,13 +22,15 @@ fn translate_in(pivots: &[u8], edges: &[u8], k: &[u8], c: usize, dest: &mut [u8]
     ensures written { λ r. ⌜ now (dest .exit) ≡ leaves (sizeCauses (translated (now (pivots .entry)) (now (edges .entry)) (now (k .entry))) (now (dest .entry))) (translated (now (pivots .entry)) (now (edges .entry)) (now (k .entry))) (now (dest .entry)) ⌝ }
 {
     let edge = records::record_at(edges, c);
-    if records::is_no_edge(edge) {
+    match records::edge_kind(edge) {
+        EdgeKind::Prefix(_) => {
+            let from = records::key_bytes(records::record_at(pivots, c));
+            let n = range_prefix::range_prefix_len(from, records::record_at(pivots, c + 1));
+            keys::change_prefix_small(k, &from[..n], records::key_bytes(edge), dest)
+        }
         // ε changed to ε: the key itself
-        return keys::change_prefix_small(k, &k[..0], &k[..0], dest);
+        EdgeKind::Absent => keys::change_prefix_small(k, &k[..0], &k[..0], dest),
     }
-    let from = records::key_bytes(records::record_at(pivots, c));
-    let n = range_prefix::range_prefix_len(from, records::record_at(pivots, c + 1));
-    keys::change_prefix_small(k, &from[..n], records::key_bytes(edge), dest)
 }
 
 // TranslateKey: the key translated, at the head of dest. Answers its length. Refuses 1, 2, 3, 4, 5, 8 and 10.

@@ -1,5 +1,6 @@
 // The pair of a key's slot.
 use model::Answer;
+use model::EdgeKind;
 use model::Routed;
 use pairs::Paired;
 use pairs::PrefixSet;
@@ -24,19 +25,23 @@ fn slot_pair(pivots: &[u8], edges: &[u8], c: usize) -> Paired
     ensures paired { λ r. ⌜ state (r .pair) ≡ stateOf (slotPair (now (pivots .entry)) (now (edges .entry)) c) ⌝ }
 {
     let edge = records::record_at(edges, c);
-    if records::is_no_edge(edge) {
-        let pair = PrefixSet::absent();
-        return Paired {
-            answer: Answer::Value(0),
-            pair,
-        };
-    }
-    let from = records::key_bytes(records::record_at(pivots, c));
-    let n = range_prefix::range_prefix_len(from, records::record_at(pivots, c + 1));
-    let pair = PrefixSet::of(&from[..n], records::key_bytes(edge));
-    Paired {
-        answer: Answer::Value(1),
-        pair,
+    match records::edge_kind(edge) {
+        EdgeKind::Prefix(_) => {
+            let from = records::key_bytes(records::record_at(pivots, c));
+            let n = range_prefix::range_prefix_len(from, records::record_at(pivots, c + 1));
+            let pair = PrefixSet::of(&from[..n], records::key_bytes(edge));
+            Paired {
+                answer: Answer::Value(1),
+                pair,
+            }
+        }
+        EdgeKind::Absent => {
+            let pair = PrefixSet::absent();
+            Paired {
+                answer: Answer::Value(0),
+                pair,
+            }
+        }
     }
 }
 

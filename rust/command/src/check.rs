@@ -2,7 +2,7 @@
 use crate::arguments::Arguments;
 use crate::failure::Done;
 use crate::{files, output, Streams};
-use joistdenim::{Edge, Table};
+use joistdenim::Table;
 
 /// Each table is looked at, whatever is wrong with another, and its line or its fault is told before
 /// the next. A file is written only if none is wrong.
@@ -36,7 +36,7 @@ pub fn run(arguments: &Arguments, streams: &mut Streams) -> Done {
 
 fn size(table: &Table) -> String {
     let (pivots, slots) = (table.pivots().len(), table.edges().len());
-    let edges = table.edges().filter(|edge| *edge != Edge::Absent).count();
+    let edges = table.edges().filter(|edge| edge.prefix().is_some()).count();
     let slots = match slots {
         1 => "1 slot".into(),
         _ => format!("{slots} slots"),

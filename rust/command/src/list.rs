@@ -43,9 +43,9 @@ fn full_slot(slot: &Slot) -> String {
 
 fn short_slot(slot: &Slot) -> String {
     let (left, edge) = (key(&slot.left), edge(&slot.edge));
-    match slot.edge {
-        Edge::Absent => format!("{left} {edge}"),
-        _ => format!("{left} {}>{edge}", key(&slot.shared)),
+    match slot.edge.prefix() {
+        Some(_) => format!("{left} {}>{edge}", key(&slot.shared)),
+        None => format!("{left} {edge}"),
     }
 }
 

@@ -31,14 +31,16 @@ pub fn plain_cut(pivots: &[u8], edges: &[u8], l: &[u8], r: &[u8]) -> Result<Plai
     let new = Pivots::rising(pivots.collect())?;
     let edge = |slot| {
         let old_slot = old.route(new.all()[slot])?;
-        let Edge::To(edge) = edges[old_slot] else {
-            return Ok(None);
-        };
-        let prefix = new
-            .slot_prefix(slot)
-            .strip_prefix(old.slot_prefix(old_slot));
-        let beyond = prefix.expect("a range inside another goes on from its prefix");
-        Ok(Some([edge, beyond].concat()))
+        Ok(match edges[old_slot] {
+            Edge::To(edge) => {
+                let prefix = new
+                    .slot_prefix(slot)
+                    .strip_prefix(old.slot_prefix(old_slot));
+                let beyond = prefix.expect("a range inside another goes on from its prefix");
+                Some([edge, beyond].concat())
+            }
+            Edge::Absent => None,
+        })
     };
     let edges = (0..new.all().len() - 1).map(edge);
     Ok(PlainCut {

@@ -104,11 +104,10 @@ pub fn translate_pivots(
 /// "TranslateEdges fills an absent edge with the range's prefix, which may be ε". Answers the
 /// edges written.
 pub fn translate_edges(pivots: &[u8], edges: &[u8], dest: &mut [u8]) -> Result<usize, Refusal> {
-    let (pivots, mut edges, _) = table_and_key(pivots, edges, &[])?;
-    for (slot, edge) in edges.iter_mut().enumerate() {
-        if *edge == Edge::Absent {
-            *edge = Edge::To(pivots.slot_prefix(slot));
-        }
-    }
-    put_all(&edges, Edge::put, dest)
+    let (pivots, edges, _) = table_and_key(pivots, edges, &[])?;
+    let filled = edges.iter().enumerate().map(|(slot, edge)| match edge {
+        Edge::To(prefix) => Edge::To(prefix),
+        Edge::Absent => Edge::To(pivots.slot_prefix(slot)),
+    });
+    put_all(&filled.collect::<Vec<_>>(), Edge::put, dest)
 }

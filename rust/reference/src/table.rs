@@ -61,8 +61,10 @@ impl<'a> Pivots<'a> {
     /// Cause 4: an edge where the range's prefix is ε.
     pub(crate) fn fit(&self, edges: &[Edge]) -> Result<(), Refusal> {
         let mut slots = edges.iter().enumerate();
-        let prefixless =
-            slots.any(|(slot, edge)| *edge != Edge::Absent && self.slot_prefix(slot).is_empty());
+        let prefixless = slots.any(|(slot, edge)| match edge {
+            Edge::To(_) => self.slot_prefix(slot).is_empty(),
+            Edge::Absent => false,
+        });
         refuse_if(prefixless, Refusal::EmptyPrefix)
     }
 

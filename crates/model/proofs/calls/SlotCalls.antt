@@ -13,19 +13,19 @@ use Rattle.model.specs.declared.Reading.{Reading}
 use Rattle.model.specs.declared.Reading.the-variants as reads
 use Rattle.model.specs.keys.Key.{maxLen, isNil}
 use Rattle.model.specs.keys.Order.{key, max, isKey, lt}
-use Rattle.model.specs.records.Record.{recordSize, maxMark, lengthField, allZero, fieldReading, keyBytes, reading, keyReading, elementReading}
+use Rattle.model.specs.records.Record.{recordSize, maxMark, lengthField, allZero, fieldReading, keyBytes, reading, keyReading, elementReading, edgeReading}
 use Rattle.model.specs.records.Record.{noEdge, element, edgeOf, records, elements, edges}
 use Rattle.model.specs.inner.Places.{recordAt}
 use Rattle.model.specs.tables.Tables.{pivotAt, edgeAt, shortElement, shortEdge, WFPivots}
 use Rattle.model.specs.calls.Refusals.{first}
-use Rattle.model.specs.calls.TableCalls.{pivotsRead, tableCauses}
-use Rattle.model.proofs.Lists.{all-at}
+use Rattle.model.specs.calls.TableCalls.{pivotsRead, edgesRead, tableCauses}
+use Rattle.model.proofs.Lists.{all-at, all-inside}
 use Rattle.model.proofs.keys.Key.{both}
 use Rattle.model.proofs.records.Records.{piece-at}
 use Rattle.model.proofs.tables.Places.{sorted-at}
 use Rattle.model.proofs.tables.Routing.{wf-sorted, wf-keys, wf-short}
-use Rattle.model.proofs.calls.TableCalls.{length-elements, length-edges, element-at, edge-at}
-use Rattle.model.proofs.calls.TableCalls.{causes-read, table-pivots, table-wf, table-count, table-edges-short}
+use Rattle.model.proofs.calls.TableCalls.{length-records, length-elements, length-edges, element-at, edge-at}
+use Rattle.model.proofs.calls.TableCalls.{causes-read, table-pivots, table-wf, table-count, table-edges-read, table-edges-short}
 
 -- a record inside has 66 bytes
 pub record-size : (p : List ℕ) (i : ℕ) → i < length p / recordSize → length (recordAt p i) ≡ recordSize
@@ -98,3 +98,9 @@ module _ (shape wrong : Bool) (p e : List ℕ) (h : first (tableCauses shape wro
   -- the edge is none or has at most 64 bytes
   pub slot-edge-short : shortEdge (edgeOf (recordAt e i)) ≡ true
   slot-edge-short = rw (← slot-edge) (all-at shortEdge (edges e) i noEdge refl (table-edges-short shape wrong p e h))
+
+  -- its record is read as an edge
+  pub slot-edge-reads : edgeReading (reading (recordAt e i)) ≡ true
+  unfolding edgesRead
+  slot-edge-reads =
+      all-inside (λ (r : List ℕ). edgeReading (reading r)) (records e) i [] (omega (arith, length-records e)) (table-edges-read shape wrong p e h)

@@ -10,11 +10,14 @@ use lib.ListN.{length, take, drop, length-append, length-take, length-drop, leng
 use lib.Seq.{length-take-le, drop-drop, take-append-seam, drop-append-seam}
 use Rattle.model.specs.declared.Reading.{Reading}
 use Rattle.model.specs.declared.Reading.the-variants as reads
+use Rattle.model.specs.declared.EdgeKind.{EdgeKind}
+use Rattle.model.specs.declared.EdgeKind.the-variants as kinds
 use Rattle.model.specs.keys.Key.{Key, Bytes, maxLen}
 use Rattle.model.specs.keys.Order.{Element, key, max}
 use Rattle.model.specs.records.Record.{Edge, edge, noEdge, recordSize, noEdgeMark, maxMark, zeros, recordOf, encode, encodeEdge}
 use Rattle.model.specs.records.Record.{lengthField, allZero, keyLength, fieldReading, reading, elementReading, edgeReading}
 use Rattle.model.specs.records.Record.{keyBytes, element, edgeOf}
+use Rattle.model.specs.inner.EdgeKinds.{kindOf, edgeKind}
 use Rattle.model.specs.tables.Tables.{shortElement, shortEdge}
 use Rattle.model.proofs.keys.Key.{both}
 
@@ -233,3 +236,24 @@ module _ (r : List ℕ) (b : Bytes r) (h : length r ≡ recordSize) where
   pub encode-edge : edgeReading (reading r) ≡ true → encodeEdge (edgeOf r) ≡ r
   unfolding encodeEdge
   encode-edge e = edge-cases (λ v. encodeEdge v ≡ r) r e (key-record r b h) (record-read r noEdgeMark 0 b h)
+
+-- ---- an edge by its kind
+
+module _ (r : List ℕ) (k : EdgeKind) (e : k ≡ edgeKind r) where
+  -- a record of the kind absent stands for no edge
+  pub absent-edge : k ≡ kinds.Absent → edgeOf r ≡ noEdge
+  unfolding edgeKind edgeOf
+  absent-edge h = go (eqb (lengthField r) noEdgeMark) (sym e ∙ h)
+    where
+      go : (t : Bool) → kindOf (cond t noEdge (edge (keyBytes r))) ≡ kinds.Absent → cond t noEdge (edge (keyBytes r)) ≡ noEdge
+      go true q = refl
+      go false q = let z : _≡_ {A = ℕ} 0 1 = cc in absurd (omega arith)
+
+  -- a record of the kind prefix stands for its key bytes
+  pub prefix-edge : (n : ℕ) → k ≡ kinds.Prefix n → edgeOf r ≡ edge (keyBytes r)
+  unfolding edgeKind edgeOf
+  prefix-edge n h = go (eqb (lengthField r) noEdgeMark) (sym e ∙ h)
+    where
+      go : (t : Bool) → kindOf (cond t noEdge (edge (keyBytes r))) ≡ kinds.Prefix n → cond t noEdge (edge (keyBytes r)) ≡ edge (keyBytes r)
+      go true q = let z : _≡_ {A = ℕ} 0 1 = cc in absurd (omega arith)
+      go false q = refl

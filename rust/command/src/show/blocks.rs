@@ -86,12 +86,12 @@ impl Blocks {
     }
 
     fn edge(&self, edge: &Edge) -> String {
-        let text = match edge {
-            Edge::Prefix(prefix) if prefix.is_empty() => {
+        let text = match edge.prefix() {
+            Some(prefix) if prefix.is_empty() => {
                 format!("{edge} (empty: what is replaced is taken off)")
             }
-            Edge::Prefix(prefix) => self.shown(prefix.as_bytes()),
-            _ => format!("{edge} (none: the key stays as it is)"),
+            Some(prefix) => self.shown(prefix.as_bytes()),
+            None => format!("{edge} (none: the key stays as it is)"),
         };
         line("edge", &text)
     }

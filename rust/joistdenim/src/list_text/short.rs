@@ -39,8 +39,9 @@ impl fmt::Display for ShortForm<'_> {
         writeln!(f, "{}", SHORT.join("\t"))?;
         for slot in self.0.slots() {
             write!(f, "{}\t", slot.left)?;
-            if slot.edge != Edge::Absent {
-                write!(f, "{}{BECOMES}", slot.shared)?;
+            match slot.edge {
+                Edge::Prefix(_) => write!(f, "{}{BECOMES}", slot.shared)?,
+                Edge::Absent => {}
             }
             writeln!(f, "{}", slot.edge)?;
         }

@@ -6,14 +6,14 @@ use Rattle.buckets.proofs.check.entry_reads.Tie as tie
 
 ruleset rules = (needs, part-counts)
 
-slice-aggregate-holds : tie.Need-slice-aggregate-holds
-slice-aggregate-holds c = search rules
+slice-aggregate-holds-key : tie.Need-slice-aggregate-holds-key
+slice-aggregate-holds-key c = search rules
 
-holds-requires : tie.Need-holds-requires
-holds-requires c κs = search rules
+holds-key-requires : tie.Need-holds-key-requires
+holds-key-requires c κs = search rules
 
 returns : tie.Need-returns
 returns c = search rules
 
 pub entry-reads-spec : {M : Type 1} → statement M
-entry-reads-spec = tie.close (tie.spec slice-aggregate-holds holds-requires returns)
+entry-reads-spec = tie.close (tie.spec slice-aggregate-holds-key holds-key-requires returns)

@@ -2,7 +2,8 @@
 use Rattle.model.proofs.Lists.{part-counts}
 use Rattle.model.proofs.calls.CutCalls.{cut-pivots-short}
 use Rattle.model.proofs.calls.Writing.{table-answered, table-pivots, table-edges}
-use Rattle.cuts.proofs.Writes.{key-fits, at-fits, next-fits, pivots-at, pivots-next, edges-at, edges-next, left-pivots, right-pivots, left-edges, right-edges, edges-short}
+use Rattle.model.proofs.calls.CutPlaces.{key-fits, at-fits, next-fits, pivots-at, pivots-next, edges-at, edges-next}
+use Rattle.cuts.proofs.Writes.{left-pivots, right-pivots, left-edges, right-edges, edges-short}
 use borrow.Author.Needs.{needs}
 use Rattle.cuts.proofs.split.write_at.Statement.{statement}
 use Rattle.cuts.proofs.split.write_at.Tie as tie

@@ -6,8 +6,20 @@ use Rattle.listing.proofs.fields.edge_field.Tie as tie
 
 ruleset rules = (needs, key-short, no-edge-length, no-edge-written, edge-length, edge-written)
 
-is-no-edge-requires : tie.Need-is-no-edge-requires
-is-no-edge-requires c κs = search rules
+edge-kind-requires : tie.Need-edge-kind-requires
+edge-kind-requires c κs = search rules
+
+enum-told : tie.Need-enum-told
+enum-told c = search rules
+
+key-bytes-requires : tie.Need-key-bytes-requires
+key-bytes-requires c κs = search rules
+
+key-field-requires : tie.Need-key-field-requires
+key-field-requires c κs = search rules
+
+enum-told-2 : tie.Need-enum-told-2
+enum-told-2 c = search rules
 
 slice-aggregate-copy : tie.Need-slice-aggregate-copy
 slice-aggregate-copy c = search rules
@@ -21,12 +33,6 @@ same-length c = search rules
 returns : tie.Need-returns
 returns c = ((search rules, search rules), search rules)
 
-key-bytes-requires : tie.Need-key-bytes-requires
-key-bytes-requires c κs = search rules
-
-key-field-requires : tie.Need-key-field-requires
-key-field-requires c κs = search rules
-
 same-length-2 : tie.Need-same-length-2
 same-length-2 c = search rules
 
@@ -37,12 +43,14 @@ pub edge-field-spec : {M : Type 1} → statement M
 edge-field-spec =
     tie.close
     (tie.spec
-    is-no-edge-requires
+    edge-kind-requires
+    enum-told
+    key-bytes-requires
+    key-field-requires
+    enum-told-2
     slice-aggregate-copy
     copy-requires
     same-length
     returns
-    key-bytes-requires
-    key-field-requires
     same-length-2
     returns-2)

@@ -22,17 +22,23 @@ record-at-requires-2 c κs = search rules
 record-at-requires-3 : tie.Need-record-at-requires-3
 record-at-requires-3 c κs = search rules
 
-is-no-edge-requires : tie.Need-is-no-edge-requires
-is-no-edge-requires c κs = search rules
+edge-kind-requires : tie.Need-edge-kind-requires
+edge-kind-requires c κs = search rules
+
+enum-told : tie.Need-enum-told
+enum-told c = search rules
+
+ask-under-requires : tie.Need-ask-under-requires
+ask-under-requires c κs = (search rules, search rules)
+
+enum-told-2 : tie.Need-enum-told-2
+enum-told-2 c = search rules
 
 ask-range-requires : tie.Need-ask-range-requires
 ask-range-requires c κs = search rules
 
 returns-2 : tie.Need-returns-2
 returns-2 c = search rules
-
-ask-under-requires : tie.Need-ask-under-requires
-ask-under-requires c κs = (search rules, search rules)
 
 returns-3 : tie.Need-returns-3
 returns-3 c = search rules
@@ -46,8 +52,10 @@ ask-slot-spec =
     add-record-at
     record-at-requires-2
     record-at-requires-3
-    is-no-edge-requires
+    edge-kind-requires
+    enum-told
+    ask-under-requires
+    enum-told-2
     ask-range-requires
     returns-2
-    ask-under-requires
     returns-3)

@@ -10,14 +10,29 @@ ruleset rules = (needs, part-counts, prefix-room, prefix-made, kept-room, kept-m
 record-at-requires : tie.Need-record-at-requires
 record-at-requires c κs = search rules
 
-is-no-edge-requires : tie.Need-is-no-edge-requires
-is-no-edge-requires c κs = search rules
+edge-kind-requires : tie.Need-edge-kind-requires
+edge-kind-requires c κs = search rules
+
+enum-told : tie.Need-enum-told
+enum-told c = search rules
+
+key-bytes-requires : tie.Need-key-bytes-requires
+key-bytes-requires c κs = search rules
+
+slice-aggregate-put-joined : tie.Need-slice-aggregate-put-joined
+slice-aggregate-put-joined c = search rules
+
+put-joined-requires : tie.Need-put-joined-requires
+put-joined-requires c κs = search rules
+
+enum-told-2 : tie.Need-enum-told-2
+enum-told-2 c = search rules
 
 record-at-requires-2 : tie.Need-record-at-requires-2
 record-at-requires-2 c κs = search rules
 
-key-bytes-requires : tie.Need-key-bytes-requires
-key-bytes-requires c κs = search rules
+key-bytes-requires-2 : tie.Need-key-bytes-requires-2
+key-bytes-requires-2 c κs = search rules
 
 add-record-at : tie.Need-add-record-at
 add-record-at c = search rules
@@ -28,29 +43,20 @@ record-at-requires-3 c κs = search rules
 range-prefix-len-requires : tie.Need-range-prefix-len-requires
 range-prefix-len-requires c κs = search rules
 
-slice-aggregate-put-joined : tie.Need-slice-aggregate-put-joined
-slice-aggregate-put-joined c = search rules
-
 slice-aggregate-put-joined-2 : tie.Need-slice-aggregate-put-joined-2
 slice-aggregate-put-joined-2 c = search rules
-
-put-joined-requires : tie.Need-put-joined-requires
-put-joined-requires c κs = search rules
-
-same-length : tie.Need-same-length
-same-length c = search rules
-
-returns : tie.Need-returns
-returns c = search rules
-
-key-bytes-requires-2 : tie.Need-key-bytes-requires-2
-key-bytes-requires-2 c κs = search rules
 
 slice-aggregate-put-joined-3 : tie.Need-slice-aggregate-put-joined-3
 slice-aggregate-put-joined-3 c = search rules
 
 put-joined-requires-2 : tie.Need-put-joined-requires-2
 put-joined-requires-2 c κs = search rules
+
+same-length : tie.Need-same-length
+same-length c = search rules
+
+returns : tie.Need-returns
+returns c = search rules
 
 same-length-2 : tie.Need-same-length-2
 same-length-2 c = search rules
@@ -63,19 +69,21 @@ put-filled-spec =
     tie.close
     (tie.spec
     record-at-requires
-    is-no-edge-requires
-    record-at-requires-2
+    edge-kind-requires
+    enum-told
     key-bytes-requires
+    slice-aggregate-put-joined
+    put-joined-requires
+    enum-told-2
+    record-at-requires-2
+    key-bytes-requires-2
     add-record-at
     record-at-requires-3
     range-prefix-len-requires
-    slice-aggregate-put-joined
     slice-aggregate-put-joined-2
-    put-joined-requires
-    same-length
-    returns
-    key-bytes-requires-2
     slice-aggregate-put-joined-3
     put-joined-requires-2
+    same-length
+    returns
     same-length-2
     returns-2)

@@ -6,18 +6,31 @@ use Rattle.table_checks.proofs.edges.edge_fits.Tie as tie
 
 ruleset rules = (needs, none-fits, prefix-fits)
 
-is-no-edge-requires : tie.Need-is-no-edge-requires
-is-no-edge-requires c κs = search rules
+edge-kind-requires : tie.Need-edge-kind-requires
+edge-kind-requires c κs = search rules
 
-returns : tie.Need-returns
-returns c = search rules
+enum-told : tie.Need-enum-told
+enum-told c = search rules
 
 has-range-prefix-requires : tie.Need-has-range-prefix-requires
 has-range-prefix-requires c κs = search rules
+
+enum-told-2 : tie.Need-enum-told-2
+enum-told-2 c = search rules
+
+returns : tie.Need-returns
+returns c = search rules
 
 returns-2 : tie.Need-returns-2
 returns-2 c = search rules
 
 pub edge-fits-spec : {M : Type 1} → statement M
 edge-fits-spec =
-    tie.close (tie.spec is-no-edge-requires returns has-range-prefix-requires returns-2)
+    tie.close
+    (tie.spec
+    edge-kind-requires
+    enum-told
+    has-range-prefix-requires
+    enum-told-2
+    returns
+    returns-2)

@@ -16,8 +16,8 @@ abbrev μ-loop : tie.MeasureT-loop
 record-at-requires : tie.Need-record-at-requires Inv-loop μ-loop
 record-at-requires c κs = search rules
 
-holds-requires : tie.Need-holds-requires Inv-loop μ-loop
-holds-requires c κs = search rules
+holds-key-requires : tie.Need-holds-key-requires Inv-loop μ-loop
+holds-key-requires c κs = search rules
 
 returns : tie.Need-returns Inv-loop μ-loop
 returns c = search rules
@@ -37,8 +37,8 @@ add-record-at c = search rules
 record-at-requires-2 : tie.Need-record-at-requires-2 Inv-loop μ-loop
 record-at-requires-2 c κs = search rules
 
-holds-requires-2 : tie.Need-holds-requires-2 Inv-loop μ-loop
-holds-requires-2 c κs = search rules
+holds-pivot-requires : tie.Need-holds-pivot-requires Inv-loop μ-loop
+holds-pivot-requires c κs = search rules
 
 returns-2 : tie.Need-returns-2 Inv-loop μ-loop
 returns-2 c = search rules
@@ -46,7 +46,7 @@ returns-2 c = search rules
 rises-on-requires : tie.Need-rises-on-requires Inv-loop μ-loop
 rises-on-requires c κs =
     let pass = c .before .before .before .before .loop .inv in
-    let next = after-read _ _ _ pass (c .before .before .before .loop-test .taken) _ _ (c .before .before .record-at2 .ensures) (c .before .holds2 .ensures) (c .if2 .left) in
+    let next = after-read _ _ _ pass (c .before .before .before .loop-test .taken) _ _ (c .before .before .record-at2 .ensures) (c .before .holds-pivot .ensures) (c .if2 .left) in
     (search needs, pass .here, next)
 
 add-i : tie.Need-add-i Inv-loop μ-loop
@@ -57,7 +57,7 @@ loop-less c = search rules
 
 loop-again : tie.Need-loop-again Inv-loop μ-loop
 loop-again c =
-    turn _ _ _ (c .before .before .before .before .before .loop .inv) (c .before .before .before .before .loop-test .taken) _ _ (c .before .before .before .record-at2 .ensures) (c .before .before .holds2 .ensures) (c .before .if2 .left) _ (c .rises-on .ensures)
+    turn _ _ _ (c .before .before .before .before .before .loop .inv) (c .before .before .before .before .loop-test .taken) _ _ (c .before .before .before .record-at2 .ensures) (c .before .before .holds-pivot .ensures) (c .before .if2 .left) _ (c .rises-on .ensures)
 
 returns-3 : tie.Need-returns-3 Inv-loop μ-loop
 returns-3 c = search rules
@@ -72,14 +72,14 @@ read-pivots-spec =
     Inv-loop
     μ-loop
     record-at-requires
-    holds-requires
+    holds-key-requires
     returns
     loop-holds
     add-loop
     add-last
     add-record-at
     record-at-requires-2
-    holds-requires-2
+    holds-pivot-requires
     returns-2
     rises-on-requires
     add-i

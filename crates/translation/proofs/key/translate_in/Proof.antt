@@ -11,23 +11,11 @@ ruleset rules = (needs, part-counts, cut-next-fits, kept-answer, kept-written, c
 record-at-requires : tie.Need-record-at-requires
 record-at-requires c κs = search rules
 
-is-no-edge-requires : tie.Need-is-no-edge-requires
-is-no-edge-requires c κs = search rules
+edge-kind-requires : tie.Need-edge-kind-requires
+edge-kind-requires c κs = search rules
 
-slice-aggregate-change-prefix-small : tie.Need-slice-aggregate-change-prefix-small
-slice-aggregate-change-prefix-small c = search rules
-
-slice-aggregate-change-prefix-small-2 : tie.Need-slice-aggregate-change-prefix-small-2
-slice-aggregate-change-prefix-small-2 c = search rules
-
-change-prefix-small-requires : tie.Need-change-prefix-small-requires
-change-prefix-small-requires c κs = search rules
-
-same-length : tie.Need-same-length
-same-length c = search rules
-
-returns : tie.Need-returns
-returns c = (search rules, search rules)
+enum-told : tie.Need-enum-told
+enum-told c = search rules
 
 record-at-requires-2 : tie.Need-record-at-requires-2
 record-at-requires-2 c κs = search rules
@@ -44,14 +32,32 @@ record-at-requires-3 c κs = search rules
 range-prefix-len-requires : tie.Need-range-prefix-len-requires
 range-prefix-len-requires c κs = search rules
 
-slice-aggregate-change-prefix-small-3 : tie.Need-slice-aggregate-change-prefix-small-3
-slice-aggregate-change-prefix-small-3 c = search rules
+slice-aggregate-change-prefix-small : tie.Need-slice-aggregate-change-prefix-small
+slice-aggregate-change-prefix-small c = search rules
 
 key-bytes-requires-2 : tie.Need-key-bytes-requires-2
 key-bytes-requires-2 c κs = search rules
 
+change-prefix-small-requires : tie.Need-change-prefix-small-requires
+change-prefix-small-requires c κs = search rules
+
+enum-told-2 : tie.Need-enum-told-2
+enum-told-2 c = search rules
+
+slice-aggregate-change-prefix-small-2 : tie.Need-slice-aggregate-change-prefix-small-2
+slice-aggregate-change-prefix-small-2 c = search rules
+
+slice-aggregate-change-prefix-small-3 : tie.Need-slice-aggregate-change-prefix-small-3
+slice-aggregate-change-prefix-small-3 c = search rules
+
 change-prefix-small-requires-2 : tie.Need-change-prefix-small-requires-2
 change-prefix-small-requires-2 c κs = search rules
+
+same-length : tie.Need-same-length
+same-length c = search rules
+
+returns : tie.Need-returns
+returns c = (search rules, search rules)
 
 same-length-2 : tie.Need-same-length-2
 same-length-2 c = search rules
@@ -64,19 +70,21 @@ translate-in-spec =
     tie.close
     (tie.spec
     record-at-requires
-    is-no-edge-requires
-    slice-aggregate-change-prefix-small
-    slice-aggregate-change-prefix-small-2
-    change-prefix-small-requires
-    same-length
-    returns
+    edge-kind-requires
+    enum-told
     record-at-requires-2
     key-bytes-requires
     add-record-at
     record-at-requires-3
     range-prefix-len-requires
-    slice-aggregate-change-prefix-small-3
+    slice-aggregate-change-prefix-small
     key-bytes-requires-2
+    change-prefix-small-requires
+    enum-told-2
+    slice-aggregate-change-prefix-small-2
+    slice-aggregate-change-prefix-small-3
     change-prefix-small-requires-2
+    same-length
+    returns
     same-length-2
     returns-2)

@@ -10,14 +10,11 @@ ruleset rules = (needs, part-counts, absent-number, absent-pair, there-number, t
 record-at-requires : tie.Need-record-at-requires
 record-at-requires c κs = search rules
 
-is-no-edge-requires : tie.Need-is-no-edge-requires
-is-no-edge-requires c κs = search rules
+edge-kind-requires : tie.Need-edge-kind-requires
+edge-kind-requires c κs = search rules
 
-absent-requires : tie.Need-absent-requires
-absent-requires c κs = search rules
-
-returns : tie.Need-returns
-returns c = (search rules, search rules)
+enum-told : tie.Need-enum-told
+enum-told c = search rules
 
 record-at-requires-2 : tie.Need-record-at-requires-2
 record-at-requires-2 c κs = search rules
@@ -43,6 +40,15 @@ key-bytes-requires-2 c κs = search rules
 of-requires : tie.Need-of-requires
 of-requires c κs = search rules
 
+enum-told-2 : tie.Need-enum-told-2
+enum-told-2 c = search rules
+
+absent-requires : tie.Need-absent-requires
+absent-requires c κs = search rules
+
+returns : tie.Need-returns
+returns c = (search rules, search rules)
+
 returns-2 : tie.Need-returns-2
 returns-2 c = (search rules, search rules)
 
@@ -51,9 +57,8 @@ slot-pair-spec =
     tie.close
     (tie.spec
     record-at-requires
-    is-no-edge-requires
-    absent-requires
-    returns
+    edge-kind-requires
+    enum-told
     record-at-requires-2
     key-bytes-requires
     add-record-at
@@ -62,4 +67,7 @@ slot-pair-spec =
     slice-aggregate-of
     key-bytes-requires-2
     of-requires
+    enum-told-2
+    absent-requires
+    returns
     returns-2)
