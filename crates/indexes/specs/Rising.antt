@@ -21,6 +21,6 @@ pub record Rising (l : List ℕ) : Type 0 where
   pub rise : entriesRise (entries l) ≡ true
 
 -- pivots and a bucket
-pub record Checked (p l : List ℕ) : Type 0 where
+pub record CheckedBoth (p l : List ℕ) : Type 0 where
   pub pivots : first (pivotCauses false false p) ≡ none
   pub bucket : Rising l
