@@ -1,15 +1,16 @@
--- The record of a key in two parts: a length field and zeros, and then the key's bytes over the zeros.
+-- The record of a key in two parts: a length field and zeros, and then the key's bytes over the zeros; and when it is written.
 use mathlib.Core.Path.{_≡_, refl, sym, ap, _∙_}
 use mathlib.Core.List.{List, [], _∷_, _++_, append-assoc}
 use Prim.Native.Nat.{ℕ, _+_, _-_, _/_, _%_, _≤_, _<_}
 use native.Mathlib.Omega.{arith}
+use borrow.Author.Tests.{le-leb, lt-leb}
 use borrow.Author.Fill.{fill-more}
 use borrow.Rule.Slice.PartMut.{putMid}
 use lib.ListN.{length, take, drop, set, length-append, length-replicate, replicate-append-replicate}
 use lib.Seq.{drop-at, drop-append-le}
 use Rattle.model.specs.keys.Key.{maxLen}
 use Rattle.model.specs.records.Record.{zeros, recordOf}
-use Rattle.model.specs.inner.Written.{into}
+use Rattle.model.specs.inner.Written.{into, recorded}
 use Rattle.model.specs.calls.Refusals.{over}
 use Rattle.model.proofs.Lists.{rest, lent-on, into-over}
 use Rattle.model.proofs.records.Record.{length-record}
@@ -26,7 +27,7 @@ module _ (d v : List ℕ) (i : ℕ) (e : v ≡ zeros i ++ drop i d) where
   head-turn h m = rw e (fill-more i 0 d (omega arith))
 
   -- over 66 zeros the length field is written in its second byte
-  pub head-end : (n : ℕ) → i ≤ 66 → 66 ≤ i → n < 256 → set v 1 n ≡ over (recordOf n []) d
+  pub head-end : (n : ℕ) → i ≤ 66 → 66 ≤ i → n ≤ 64 → set v 1 n ≡ over (recordOf n []) d
   unfolding over recordOf
   head-end n h j m =
       let k : i ≡ 66 = omega arith in
@@ -69,3 +70,34 @@ module _ (a b d v w : List ℕ) (h : length a + length b ≤ 64) (m : 66 ≤ len
       g ∙ rw (rest v 2, s, into-over (a ++ b) (zeros maxLen ++ drop 66 d) room) (over-zeros maxLen (a ++ b) (drop 66 d) (omega (arith, n)))
       in
       rw (lent-on 2 v w, y, head-is, over-record (length (a ++ b)) (a ++ b) d (omega (arith, n)), n)
+
+-- ---- whether it is written
+
+module _ (a b d : List ℕ) where
+  -- the first part alone is too long
+  pub long-first : 64 < length a → d ≡ recorded (a ++ b) d
+  unfolding recorded
+  long-first h = rw (lt-leb (length (a ++ b)) maxLen (omega (arith, length-append a b)))
+
+  module _ (h : length a ≤ 64) where
+    -- or both together are
+    pub long-second : 64 - length a < length b → d ≡ recorded (a ++ b) d
+    unfolding recorded
+    long-second i = rw (lt-leb (length (a ++ b)) maxLen (omega (arith, length-append a b)))
+
+    module _ (i : length b ≤ 64 - length a) where
+      -- or there is no room
+      pub no-room : length d < 66 → d ≡ recorded (a ++ b) d
+      unfolding recorded
+      no-room j = rw (le-leb (length (a ++ b)) maxLen (omega (arith, length-append a b)), lt-leb 66 (length d) j)
+
+      -- else it is
+      pub room : (v : List ℕ) → 66 ≤ length d → v ≡ over (recordOf (length (a ++ b)) (a ++ b)) d → v ≡ recorded (a ++ b) d
+      unfolding recorded
+      room v j e = rw (le-leb (length (a ++ b)) maxLen (omega (arith, length-append a b)), le-leb 66 (length d) j) e
+
+  -- where it has room a key that is short is written
+  pub recorded-whole : (v : List ℕ) → length a + length b ≤ maxLen → 66 ≤ length d → v ≡ recorded (a ++ b) d
+      → v ≡ over (recordOf (length (a ++ b)) (a ++ b)) d
+  unfolding recorded
+  recorded-whole v h j e = rw (le-leb (length (a ++ b)) maxLen (omega (arith, length-append a b)), le-leb 66 (length d) j) at e

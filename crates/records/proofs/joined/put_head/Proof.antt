@@ -1,13 +1,13 @@
--- `renaming::put_head` meets its contract.
+-- `records::put_head` meets its contract.
 use mathlib.Core.Path.{_≡_}
 use mathlib.Core.List.{_++_}
 use Prim.Native.Nat.{_-_, _≤_}
 use lib.ListN.{length, drop}
 use Rattle.model.specs.records.Record.{zeros}
-use Rattle.renaming.proofs.JoinedKeys.{head-start, head-turn, head-end}
+use Rattle.records.proofs.JoinedKeys.{head-start, head-turn, head-end}
 use borrow.Author.Needs.{needs}
-use Rattle.renaming.proofs.record.put_head.Statement.{statement}
-use Rattle.renaming.proofs.record.put_head.Tie as tie
+use Rattle.records.proofs.joined.put_head.Statement.{statement}
+use Rattle.records.proofs.joined.put_head.Tie as tie
 
 ruleset rules = (needs, head-start, head-turn, head-end)
 

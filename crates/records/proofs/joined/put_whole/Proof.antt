@@ -1,8 +1,8 @@
--- `renaming::put_joined` meets its contract.
-use Rattle.renaming.proofs.JoinedKeys.{joined-made}
+-- `records::put_whole` meets its contract.
+use Rattle.records.proofs.JoinedKeys.{joined-made}
 use borrow.Author.Needs.{needs}
-use Rattle.renaming.proofs.record.put_joined.Statement.{statement}
-use Rattle.renaming.proofs.record.put_joined.Tie as tie
+use Rattle.records.proofs.joined.put_whole.Statement.{statement}
+use Rattle.records.proofs.joined.put_whole.Tie as tie
 
 ruleset rules = (needs, joined-made)
 
@@ -30,8 +30,8 @@ same-length c = search rules
 returns : tie.Need-returns
 returns c = search rules
 
-pub put-joined-spec : {M : Type 1} → statement M
-put-joined-spec =
+pub put-whole-spec : {M : Type 1} → statement M
+put-whole-spec =
     tie.close
     (tie.spec
     add-put-head
