@@ -1,8 +1,8 @@
--- `pair_records::place` meets its contract.
+-- `pair_records::place_pair` meets its contract.
 use Rattle.pair_records.proofs.Placing.{placing}
 use borrow.Author.Needs.{needs}
-use Rattle.pair_records.proofs.record.place.Statement.{statement}
-use Rattle.pair_records.proofs.record.place.Tie as tie
+use Rattle.pair_records.proofs.record.place_pair.Statement.{statement}
+use Rattle.pair_records.proofs.record.place_pair.Tie as tie
 
 ruleset rules = (needs, placing)
 
@@ -18,8 +18,8 @@ returns c = (search rules, search rules)
 returns-2 : tie.Need-returns-2
 returns-2 c = (search rules, search rules)
 
-write-pair-requires : tie.Need-write-pair-requires
-write-pair-requires c κs = search rules
+put-pair-requires : tie.Need-put-pair-requires
+put-pair-requires c κs = search rules
 
 same-length : tie.Need-same-length
 same-length c = search rules
@@ -27,7 +27,7 @@ same-length c = search rules
 returns-3 : tie.Need-returns-3
 returns-3 c = (search rules, search rules)
 
-pub place-spec : {M : Type 1} → statement M
-place-spec =
+pub place-pair-spec : {M : Type 1} → statement M
+place-pair-spec =
     tie.close
-    (tie.spec enum-told enum-told-2 returns returns-2 write-pair-requires same-length returns-3)
+    (tie.spec enum-told enum-told-2 returns returns-2 put-pair-requires same-length returns-3)
