@@ -13,7 +13,7 @@ use Rattle.model.specs.tables.Tables.{all}
 use Rattle.model.specs.buckets.Bucket.{entrySize, entryRecord, entryBytes}
 use Rattle.model.specs.calls.BucketCalls.{entriesRead}
 use Rattle.model.specs.inner.Places.{entryAt}
-use Rattle.buckets.proofs.Places.{length-entryBytes}
+use Rattle.entries.proofs.Places.{length-entryBytes}
 
 module _ (l : List ℕ) (i : ℕ) (w : entriesRead (entryBytes l) ≡ entriesRead (drop i (entryBytes l))) where
   -- at the end all are read

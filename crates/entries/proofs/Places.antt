@@ -1,22 +1,19 @@
 -- The entry at a place among the bytes of a bucket.
 use mathlib.Core.Path.{_≡_, sym, _∙_}
-use mathlib.Core.Bool.{Bool}
 use mathlib.Core.List.{List, []}
 use Prim.Native.Nat.{ℕ, _+_, _*_, _-_, _/_, _≤_, _<_}
 use native.Mathlib.Nat.{add-sub-cancel-left}
 use native.Mathlib.Omega.{arith}
 use lib.ListN.{length, take, drop, length-drop, length-map, List·getD-eq-default}
 use lib.Seq.{length-take-le}
-use Rattle.model.specs.keys.Key.{IsPrefix}
-use Rattle.model.specs.records.Record.{recordSize, keyBytes}
-use Rattle.model.specs.buckets.Bucket.{entrySize, entryOf, entryBytes, entries}
+use Rattle.model.specs.records.Record.{recordSize}
+use Rattle.model.specs.buckets.Bucket.{entrySize, entryOf, entryBytes, entryBytesBy, entries}
 use Rattle.model.proofs.records.Records.{length-pieces, piece-at}
 use Rattle.model.specs.inner.Places.{entryAt}
-use Rattle.buckets.specs.Kept.{Checked}
 
 -- there are as many as their size goes into the bytes
 pub length-entryBytes : (l : List ℕ) → length (entryBytes l) ≡ length l / entrySize
-unfolding entryBytes
+unfolding entryBytesBy
 length-entryBytes l = length-pieces entrySize (length l / entrySize) l
 
 -- there are as many entries as their size goes into the bytes
@@ -32,12 +29,12 @@ module _ (l : List ℕ) (i : ℕ) where
   module _ (h : i < length l / entrySize) where
     -- inside the bucket it is the part at its place
     pub entry-part : take (i * entrySize + entrySize - i * entrySize) (drop (i * entrySize) l) ≡ entryAt l i
-    unfolding entryBytes
+    unfolding entryBytesBy
     entry-part = rw (add-sub-cancel-left, piece-at entrySize (length l / entrySize) i l h)
 
     -- and has its size
     pub entry-size : length (entryAt l i) ≡ entrySize
-    unfolding entryBytes
+    unfolding entryBytesBy
     entry-size =
         rw (piece-at entrySize (length l / entrySize) i l h)
         (length-take-le entrySize (drop (i * entrySize) l) (omega (arith, length-drop (i * entrySize) l)))
@@ -45,16 +42,3 @@ module _ (l : List ℕ) (i : ℕ) where
     -- so that there is a record at its head
     pub record-there : (e : List ℕ) → e ≡ entryAt l i → recordSize ≤ length e
     record-there e g = rw g (omega (arith, entry-size))
-
--- a checked entry has a record at its head
-pub record-first : (e : List ℕ) → Checked e → recordSize ≤ length e
-record-first e w = omega (arith, w .size)
-
--- the key of that record is the entry's
-pub key-there : (e k : List ℕ) → k ≡ keyBytes (take recordSize e) → k ≡ entryOf e .key
-unfolding entryOf
-key-there e k h = h
-
--- the test of an entry's prefix is that of its key
-pub prefix-told : (e k p : List ℕ) (t : Bool) → k ≡ entryOf e .key → t ≡ IsPrefix p k → t ≡ IsPrefix p (entryOf e .key)
-prefix-told e k p t h g = rw (← h) g

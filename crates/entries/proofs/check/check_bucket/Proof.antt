@@ -1,10 +1,10 @@
--- `buckets::check_bucket` meets its contract.
+-- `entries::check_bucket` meets its contract.
 use Rattle.model.specs.calls.BucketCalls.{bucketCauses}
 use Rattle.model.proofs.calls.Refusals.{answering}
-use Rattle.buckets.proofs.Counts.{counted}
+use Rattle.entries.proofs.Counts.{counted}
 use borrow.Author.Needs.{needs}
-use Rattle.buckets.proofs.check.check_bucket.Statement.{statement}
-use Rattle.buckets.proofs.check.check_bucket.Tie as tie
+use Rattle.entries.proofs.check.check_bucket.Statement.{statement}
+use Rattle.entries.proofs.check.check_bucket.Tie as tie
 
 ruleset rules = (needs, counted, answering)
 

@@ -1,14 +1,14 @@
--- `buckets::entries_read` meets its contract.
+-- `entries::entries_read` meets its contract.
 use Rattle.model.specs.calls.BucketCalls.{entriesRead}
 use Rattle.model.specs.buckets.Bucket.{entryBytes}
 use lib.ListN.{drop}
 use mathlib.Core.Path.{_≡_}
 use Prim.Native.Nat.{_-_}
 use borrow.Author.Needs.{needs}
-use Rattle.buckets.proofs.Checking.{read-over, not-read, next-read}
-use Rattle.buckets.proofs.Places.{record-there}
-use Rattle.buckets.proofs.check.entries_read.Statement.{statement}
-use Rattle.buckets.proofs.check.entries_read.Tie as tie
+use Rattle.entries.proofs.Checking.{read-over, not-read, next-read}
+use Rattle.entries.proofs.Places.{record-there}
+use Rattle.entries.proofs.check.entries_read.Statement.{statement}
+use Rattle.entries.proofs.check.entries_read.Tie as tie
 
 ruleset rules = (needs, record-there, read-over, not-read, next-read)
 

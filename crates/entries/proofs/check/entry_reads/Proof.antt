@@ -1,8 +1,8 @@
--- `buckets::entry_reads` meets its contract.
+-- `entries::entry_reads` meets its contract.
 use Rattle.model.proofs.Lists.{part-counts}
 use borrow.Author.Needs.{needs}
-use Rattle.buckets.proofs.check.entry_reads.Statement.{statement}
-use Rattle.buckets.proofs.check.entry_reads.Tie as tie
+use Rattle.entries.proofs.check.entry_reads.Statement.{statement}
+use Rattle.entries.proofs.check.entry_reads.Tie as tie
 
 ruleset rules = (needs, part-counts)
 

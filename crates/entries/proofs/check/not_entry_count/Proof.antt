@@ -1,8 +1,8 @@
--- `buckets::not_entry_count` meets its contract.
+-- `entries::not_entry_count` meets its contract.
 use borrow.Author.Needs.{needs}
-use Rattle.buckets.proofs.Counts.{not-whole, too-many}
-use Rattle.buckets.proofs.check.not_entry_count.Statement.{statement}
-use Rattle.buckets.proofs.check.not_entry_count.Tie as tie
+use Rattle.entries.proofs.Counts.{not-whole, too-many}
+use Rattle.entries.proofs.check.not_entry_count.Statement.{statement}
+use Rattle.entries.proofs.check.not_entry_count.Tie as tie
 
 ruleset rules = (needs, not-whole, too-many)
 

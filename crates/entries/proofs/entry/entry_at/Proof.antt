@@ -1,8 +1,8 @@
--- `buckets::entry_at` meets its contract.
-use Rattle.buckets.proofs.Places.{past-entries, entry-part}
+-- `entries::entry_at` meets its contract.
+use Rattle.entries.proofs.Places.{past-entries, entry-part}
 use borrow.Author.Needs.{needs}
-use Rattle.buckets.proofs.entry.entry_at.Statement.{statement}
-use Rattle.buckets.proofs.entry.entry_at.Tie as tie
+use Rattle.entries.proofs.entry.entry_at.Statement.{statement}
+use Rattle.entries.proofs.entry.entry_at.Tie as tie
 
 ruleset rules = (needs, past-entries, entry-part)
 
