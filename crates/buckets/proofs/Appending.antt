@@ -27,7 +27,7 @@ use Rattle.model.proofs.buckets.Bucket.{translated-wft}
 use Rattle.model.proofs.calls.Refusals.{none-here, none-later, none-before, none-after}
 use Rattle.model.proofs.calls.BucketCalls.{bucket-most, kept-sized}
 use Rattle.model.specs.inner.Places.{entryAt}
-use Rattle.buckets.specs.Kept.{Checked, Good, keptOf, keptBytes}
+use Rattle.buckets.specs.Kept.{CheckedEntry, Good, keptOf, keptBytes}
 use Rattle.buckets.proofs.Measuring.{left, left-over, left-next, entry-checked, kept-most}
 
 -- a list of length 0 is empty
@@ -150,7 +150,7 @@ module _ (l : List ℕ) (p q : Key) (d₀ : List ℕ) (kept : ℕ) (h : first (t
         j-place : j < length l / entrySize
         j-place = omega (arith, put-place)
 
-        pub put-checked : Checked e
+        pub put-checked : CheckedEntry e
         put-checked = entry-checked l p q (all-good l p q d₀ h) j e j-place g
 
         pub put-short : all shortEntry (keptOf e p q) ≡ true

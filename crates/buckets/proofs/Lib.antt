@@ -1,6 +1,4 @@
-pub mod Places
 pub mod Counts
-pub mod Checking
 pub mod OneEntry
 pub mod Measuring
 pub mod Writing

@@ -27,8 +27,8 @@ use Rattle.model.proofs.calls.BucketCalls.{bucket-read, bucket-most, bucket-wro
 use Rattle.model.proofs.calls.Refusals.{accepted, value-is, none-here}
 use Rattle.model.proofs.calls.TableCalls.{either-fails}
 use Rattle.model.specs.inner.Places.{entryAt}
-use Rattle.buckets.specs.Kept.{Checked, Good, keptOf, longCauses}
-use Rattle.buckets.proofs.Places.{length-entryBytes, length-entries, entry-size}
+use Rattle.buckets.specs.Kept.{CheckedEntry, Good, keptOf, longKept}
+use Rattle.entries.proofs.Places.{length-entryBytes, length-entries, entry-size}
 
 -- what the entries from a place on leave in the renamed bucket
 abbrev pub left : List ℕ → Key → Key → ℕ → Bucket
@@ -54,7 +54,7 @@ module _ (l : List ℕ) (p q : Key) (i : ℕ) where
 
 module _ (l : List ℕ) (p q : Key) (h : Good l p q) where
   -- each of its entries is checked
-  pub entry-checked : (i : ℕ) (e : List ℕ) → i < length l / entrySize → e ≡ entryAt l i → Checked e
+  pub entry-checked : (i : ℕ) (e : List ℕ) → i < length l / entrySize → e ≡ entryAt l i → CheckedEntry e
   unfolding entriesRead
   entry-checked i e k g =
       let j : i < length (entryBytes l) = omega (arith, length-entryBytes l) in
@@ -88,14 +88,14 @@ module _ (l : List ℕ) (p q : Key) where
 
   module _ (i kept : ℕ) (w : Measured l p q i kept) where
     -- at the end the count is the answer
-    pub measure-end : length l / entrySize ≤ i → Value kept ≡ answer (longCauses (newBucket l p q)) (length (newBucket l p q))
+    pub measure-end : length l / entrySize ≤ i → Value kept ≡ answer (longKept (newBucket l p q)) (length (newBucket l p q))
     unfolding outcome all
     measure-end h =
         let e = left-over l p q i h in
         let n : kept ≡ length (newBucket l p q) = omega (arith, rw e at (w .counted)) in
         rw (w .short, e, ← n)
 
-    module _ (h : i < length l / entrySize) (e : List ℕ) (g : e ≡ entryAt l i) (a : Answer) (f : a ≡ answer (longCauses (keptOf e p q)) (length (keptOf e p q))) where
+    module _ (h : i < length l / entrySize) (e : List ℕ) (g : e ≡ entryAt l i) (a : Answer) (f : a ≡ answer (longKept (keptOf e p q)) (length (keptOf e p q))) where
       here-left : left l p q i ≡ keptOf e p q ++ left l p q (i + 1)
       here-left = rw g (left-next l p q i h)
 
@@ -106,20 +106,20 @@ module _ (l : List ℕ) (p q : Key) where
       here-counted = rw (← length-append, ← here-left) (w .counted)
 
       -- an entry that is too long makes the answer
-      pub measure-refused : (r : Refusal) → a ≡ Refused r → a ≡ answer (longCauses (newBucket l p q)) (length (newBucket l p q))
+      pub measure-refused : (r : Refusal) → a ≡ Refused r → a ≡ answer (longKept (newBucket l p q)) (length (newBucket l p q))
       unfolding outcome
       measure-refused r k = go (all shortEntry (keptOf e p q)) refl
         where
-          go : (t : Bool) → all shortEntry (keptOf e p q) ≡ t → a ≡ answer (longCauses (newBucket l p q)) (length (newBucket l p q))
+          go : (t : Bool) → all shortEntry (keptOf e p q) ≡ t → a ≡ answer (longKept (newBucket l p q)) (length (newBucket l p q))
           go true z = let v = rw z at f in let x : _≡_ {A = ℕ} 0 1 = cc in absurd (omega arith)
           go false z = let v = rw z at f in let x = rw z at here-short in rw x v
 
       module _ (n : ℕ) (k : a ≡ Value n) where
         counts : n ≡ length (keptOf e p q)
-        counts = value-is (longCauses (keptOf e p q)) _ a f n k
+        counts = value-is (longKept (keptOf e p q)) _ a f n k
 
         all-short : all shortEntry (keptOf e p q) ≡ true
-        all-short = not-false _ (none-here _ TooLong [] (accepted (longCauses (keptOf e p q)) _ a f n k))
+        all-short = not-false _ (none-here _ TooLong [] (accepted (longKept (keptOf e p q)) _ a f n k))
 
         -- the new count is a number of the code
         pub kept-fits : Good l p q → Fits w64 (kept + n)

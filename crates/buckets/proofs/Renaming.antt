@@ -20,7 +20,7 @@ use Rattle.model.specs.buckets.Bucket.{entrySize, encodeBucket}
 use Rattle.model.specs.calls.Refusals.{_⇒_, outcome, first, answer, yesOrNo, over}
 use Rattle.model.specs.calls.BucketCalls.{bucketCauses, newBucket, neededBytes, bucketLong, bucketFull, renameCauses, translateBucketCauses, translateBucketAnswer, translateBucketLeaves, willFitAnswer}
 use Rattle.model.proofs.calls.Refusals.{here, later, after, accepted, value-is, refused, refused-by, refused-first, passed, none-here}
-use Rattle.buckets.specs.Kept.{Good, longCauses}
+use Rattle.buckets.specs.Kept.{Good, longKept}
 
 -- ---- the check
 
@@ -43,20 +43,20 @@ module _ (l : List ℕ) (p q : Key) (t : Bool) (a : Answer) (e : t ≡ (tooLong 
 
 -- ---- the measure
 
-module _ (l : List ℕ) (p q : Key) (b : Answer) (h : Good l p q) (f : b ≡ answer (longCauses (newBucket l p q)) (length (newBucket l p q))) where
+module _ (l : List ℕ) (p q : Key) (b : Answer) (h : Good l p q) (f : b ≡ answer (longKept (newBucket l p q)) (length (newBucket l p q))) where
   -- its refusal is handed on
   pub measure-handed : {A : Type 0} (o : Refusal → A) (v x : A) (d : List ℕ) (r : Refusal) → b ≡ Refused r → x ≡ o r → x ≡ outcome o (translateBucketCauses l p q d) v
   measure-handed o v x d r k g =
       after o v x (renameCauses l p q) _ h
-      (refused-first o v x (longCauses (newBucket l p q)) ((bucketFull l p q (length d) ⇒ NoRoom) ∷ []) r (refused (longCauses (newBucket l p q)) _ b f r k) g)
+      (refused-first o v x (longKept (newBucket l p q)) ((bucketFull l p q (length d) ⇒ NoRoom) ∷ []) r (refused (longKept (newBucket l p q)) _ b f r k) g)
 
   module _ (kept : ℕ) (k : b ≡ Value kept) where
     not-long : bucketLong l p q ≡ false
-    not-long = none-here (bucketLong l p q) TooLong [] (accepted (longCauses (newBucket l p q)) _ b f kept k)
+    not-long = none-here (bucketLong l p q) TooLong [] (accepted (longKept (newBucket l p q)) _ b f kept k)
 
     -- its count is that of the entries kept
     pub count-is : kept ≡ length (newBucket l p q)
-    count-is = value-is (longCauses (newBucket l p q)) _ b f kept k
+    count-is = value-is (longKept (newBucket l p q)) _ b f kept k
 
     -- whether so many bytes are too few for it is whether there is no room
     full-is : (m : ℕ) (t : Bool) → t ≡ ltb m (kept * entrySize) → bucketFull l p q m ≡ t
@@ -92,7 +92,7 @@ module _ (l : List ℕ) (p q : Key) (b : Answer) (h : Good l p q) (f : b ≡ ans
 
 -- ---- will it fit
 
-module _ (l : List ℕ) (p q : Key) (b : Answer) (h : Good l p q) (f : b ≡ answer (longCauses (newBucket l p q)) (length (newBucket l p q))) (m : ℕ) where
+module _ (l : List ℕ) (p q : Key) (b : Answer) (h : Good l p q) (f : b ≡ answer (longKept (newBucket l p q)) (length (newBucket l p q))) (m : ℕ) where
   -- not where a kept entry is too long
   pub long-no : (r : Refusal) → b ≡ Refused r → No ≡ yesOrNo (not (bucketLong l p q || bucketFull l p q m))
   unfolding outcome

@@ -14,7 +14,7 @@ use Rattle.model.specs.calls.Refusals.{Cause, _⇒_, first}
 use Rattle.model.specs.calls.BucketCalls.{shortEntry, renameCauses}
 
 -- bytes of an entry whose record reads as a key
-pub record Checked (e : List ℕ) : Type 0 where
+pub record CheckedEntry (e : List ℕ) : Type 0 where
   pub size : length e ≡ entrySize
   pub reads : keyReading (reading (entryRecord e)) ≡ true
 
@@ -31,5 +31,5 @@ abbrev pub keptBytes : List ℕ → Key → Key → List ℕ
 keptBytes e p q = encodeBucket (keptOf e p q)
 
 -- cause 8 of entries that are kept
-abbrev pub longCauses : Bucket → List Cause
-longCauses b = (not (all shortEntry b) ⇒ TooLong) ∷ []
+abbrev pub longKept : Bucket → List Cause
+longKept b = (not (all shortEntry b) ⇒ TooLong) ∷ []

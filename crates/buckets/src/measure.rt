@@ -1,7 +1,7 @@
 // What is looked at before anything is written: the keys produced, and the room.
 use crate::entry::begins_with;
-use crate::entry::entry_at;
 use crate::entry::key_of;
+use entries::entry_at;
 use model::Answer;
 use model::ENTRY_SIZE;
 use model::MAX_LEN;
@@ -14,12 +14,12 @@ ghost use Rattle.model.specs.keys.Key.{maxLen};
 ghost use Rattle.model.specs.buckets.Bucket.{entrySize};
 ghost use Rattle.model.specs.calls.Refusals.{answer};
 ghost use Rattle.model.specs.calls.BucketCalls.{newBucket};
-ghost use Rattle.buckets.specs.Kept.{Checked, Good, keptOf, longCauses};
+ghost use Rattle.buckets.specs.Kept.{CheckedEntry, Good, keptOf, longKept};
 
 // Cause 8 of one entry; else 1 where it is kept, and 0 where its key doesn't begin with the prefix.
 fn measure_entry(entry: &[u8], prefix: &[u8], new_prefix: &[u8]) -> Answer
-    requires { ⌜ (Checked (now entry)) × (length (now «new_prefix») ≤ maxLen) ⌝ }
-    ensures { λ r. ⌜ r ≡ answer (longCauses (keptOf (now (entry .entry)) (now (prefix .entry)) (now («new_prefix» .entry)))) (length (keptOf (now (entry .entry)) (now (prefix .entry)) (now («new_prefix» .entry)))) ⌝ }
+    requires { ⌜ (CheckedEntry (now entry)) × (length (now «new_prefix») ≤ maxLen) ⌝ }
+    ensures { λ r. ⌜ r ≡ answer (longKept (keptOf (now (entry .entry)) (now (prefix .entry)) (now («new_prefix» .entry)))) (length (keptOf (now (entry .entry)) (now (prefix .entry)) (now («new_prefix» .entry)))) ⌝ }
 {
     if !begins_with(entry, prefix) {
         return Answer::Value(0);
@@ -33,7 +33,7 @@ fn measure_entry(entry: &[u8], prefix: &[u8], new_prefix: &[u8]) -> Answer
 // Cause 8 of the entries that are kept; else their count.
 pub(crate) fn measure(bucket: &[u8], prefix: &[u8], new_prefix: &[u8]) -> Answer
     requires { ⌜ Good (now bucket) (now prefix) (now «new_prefix») ⌝ }
-    ensures { λ r. ⌜ r ≡ answer (longCauses (newBucket (now (bucket .entry)) (now (prefix .entry)) (now («new_prefix» .entry)))) (length (newBucket (now (bucket .entry)) (now (prefix .entry)) (now («new_prefix» .entry)))) ⌝ }
+    ensures { λ r. ⌜ r ≡ answer (longKept (newBucket (now (bucket .entry)) (now (prefix .entry)) (now («new_prefix» .entry)))) (length (newBucket (now (bucket .entry)) (now (prefix .entry)) (now («new_prefix» .entry)))) ⌝ }
 {
     let count = bucket.len() / ENTRY_SIZE;
     let mut kept = 0;

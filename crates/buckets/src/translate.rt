@@ -1,8 +1,8 @@
 // TranslateBucket, and whether it would be accepted.
-use crate::check::check_bucket;
 use crate::measure::measure;
 use crate::measure::too_short;
 use crate::write::put_entries;
+use entries::check_bucket;
 use model::Answer;
 use model::Decided;
 use model::MAX_LEN;

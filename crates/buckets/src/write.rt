@@ -1,70 +1,36 @@
 // The entries that are kept, written one after the other.
 use crate::entry::begins_with;
-use crate::entry::entry_at;
 use crate::entry::key_of;
+use entries::entry_at;
 use model::ENTRY_SIZE;
 use model::RECORD_SIZE;
 ghost use mathlib.Core.Path.{_≡_};
 ghost use mathlib.Core.Bool.{true};
-ghost use mathlib.Core.List.{[], _++_};
 ghost use mathlib.Core.Option.{none};
 ghost use Prim.Native.Nat.{_+_, _≤_};
 ghost use lib.ListN.{length};
-ghost use Rattle.model.specs.keys.Key.{IsPrefix, maxLen};
-ghost use Rattle.model.specs.records.Record.{recordSize, recordOf};
+ghost use Rattle.model.specs.keys.Key.{IsPrefix};
 ghost use Rattle.model.specs.tables.Tables.{all};
 ghost use Rattle.model.specs.buckets.Bucket.{entrySize, entryOf, encodeEntry, encodeBucket, translateEntry};
-ghost use Rattle.model.specs.inner.Written.{into};
 ghost use Rattle.model.specs.calls.Refusals.{first, over};
 ghost use Rattle.model.specs.calls.BucketCalls.{shortEntry, newBucket, translateBucketCauses};
-ghost use Rattle.buckets.specs.Kept.{Checked, keptOf, keptBytes};
-
-// Writes a record with this length, and zeros for a key, to the head of dest.
-fn put_blank(n: u8, dest: &mut [u8])
-    requires { ⌜ (n ≤ maxLen) × (recordSize ≤ length (now dest)) ⌝ }
-    ensures { λ _. ⌜ now (dest .exit) ≡ over (recordOf n []) (now (dest .entry)) ⌝ }
-{
-    let mut i = 0;
-    while i < RECORD_SIZE {
-        dest[i] = 0;
-        i += 1;
-    }
-    dest[1] = n;
-}
-
-// Writes one part and then another to the head of dest, as far as there is room.
-fn put_parts(first: &[u8], rest: &[u8], dest: &mut [u8])
-    ensures { λ _. ⌜ now (dest .exit) ≡ into (now (first .entry) ++ now (rest .entry)) (now (dest .entry)) ⌝ }
-{
-    let n = scan::least(first.len(), dest.len());
-    records::copy_by_blocks(first, dest);
-    records::copy_by_blocks(rest, &mut dest[n..]);
-}
-
-// Writes the record of a key in two parts to the head of dest.
-fn put_key(first: &[u8], rest: &[u8], dest: &mut [u8])
-    requires { ⌜ (length (now first) + length (now rest) ≤ maxLen) × (recordSize ≤ length (now dest)) ⌝ }
-    ensures { λ _. ⌜ now (dest .exit) ≡ over (recordOf (length (now (first .entry) ++ now (rest .entry))) (now (first .entry) ++ now (rest .entry))) (now (dest .entry)) ⌝ }
-{
-    put_blank((first.len() + rest.len()) as u8, dest);
-    put_parts(first, rest, &mut dest[2..]);
-}
+ghost use Rattle.buckets.specs.Kept.{CheckedEntry, keptOf, keptBytes};
 
 // Writes the translation of an entry whose key begins with the prefix to the head of dest.
 fn put_kept(entry: &[u8], prefix: &[u8], new_prefix: &[u8], dest: &mut [u8])
-    requires { ⌜ (Checked (now entry)) × (IsPrefix (now prefix) (entryOf (now entry) .key) ≡ true) × (shortEntry (translateEntry (now prefix) (now «new_prefix») (entryOf (now entry))) ≡ true) × (entrySize ≤ length (now dest)) ⌝ }
+    requires { ⌜ (CheckedEntry (now entry)) × (IsPrefix (now prefix) (entryOf (now entry) .key) ≡ true) × (shortEntry (translateEntry (now prefix) (now «new_prefix») (entryOf (now entry))) ≡ true) × (entrySize ≤ length (now dest)) ⌝ }
     ensures { λ _. ⌜ now (dest .exit) ≡ over (encodeEntry (translateEntry (now (prefix .entry)) (now («new_prefix» .entry)) (entryOf (now (entry .entry))))) (now (dest .entry)) ⌝ }
 {
     let key = key_of(entry);
     let from = prefix.len();
-    put_key(new_prefix, &key[from..], dest);
+    records::put_joined(new_prefix, &key[from..], dest);
     records::copy(&entry[RECORD_SIZE..], &mut dest[RECORD_SIZE..]);
 }
 
 // Writes what an entry leaves to the head of dest: its translation where its key begins with the prefix, else nothing.
 // Answers the bytes written.
 fn put_entry(entry: &[u8], prefix: &[u8], new_prefix: &[u8], dest: &mut [u8]) -> usize
-    requires { ⌜ (Checked (now entry)) × (all shortEntry (keptOf (now entry) (now prefix) (now «new_prefix»)) ≡ true) × (length (keptBytes (now entry) (now prefix) (now «new_prefix»)) ≤ length (now dest)) ⌝ }
+    requires { ⌜ (CheckedEntry (now entry)) × (all shortEntry (keptOf (now entry) (now prefix) (now «new_prefix»)) ≡ true) × (length (keptBytes (now entry) (now prefix) (now «new_prefix»)) ≤ length (now dest)) ⌝ }
     ensures count { λ r. ⌜ r ≡ length (keptBytes (now (entry .entry)) (now (prefix .entry)) (now («new_prefix» .entry))) ⌝ }
     ensures written { λ r. ⌜ now (dest .exit) ≡ over (keptBytes (now (entry .entry)) (now (prefix .entry)) (now («new_prefix» .entry))) (now (dest .entry)) ⌝ }
 {

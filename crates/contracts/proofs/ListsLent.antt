@@ -16,12 +16,12 @@ use Rattle.model.specs.keys.Key.{Key, tooLong}
 use Rattle.model.specs.keys.Order.{key, lteKey, lte}
 use Rattle.model.specs.records.Record.{lengthField, allZero, fieldReading, reading, keyBytes, element, recordOf, encode, pieces, joined, records, elements, encodeAll}
 use Rattle.model.specs.tables.Tables.{maxPivots, NumBuckets, all, risesFrom, IsStrictlySorted}
-use Rattle.model.specs.buckets.Bucket.{Bucket, entrySize, entryBytes, entries, entryOf, encodeEntry, encodeBucket, entriesRise, TranslateBucket, TranslateBuckets}
+use Rattle.model.specs.buckets.Bucket.{Bucket, entrySize, entryBytes, entryBytesBy, entries, entryOf, encodeEntry, encodeBucket, entriesRise, TranslateBucket, TranslateBuckets}
 use Rattle.model.specs.buckets.Index.{only, entriesBelow, Index, slotEntries, slotsFrom, slotBuckets, together, placesFrom, placeSize, encodePlace, encodeIndex, places}
 use Rattle.model.specs.calls.Refusals.{Cause, _⇒_, outcome, paired, first, answer}
 use Rattle.model.specs.calls.KeyCalls.{noRoom}
 use Rattle.model.specs.calls.TableCalls.{notPivotCount, pivotsRead, pivotCauses}
-use Rattle.model.specs.calls.BucketCalls.{notEntryCount, entriesRead, bucketCauses, newBucket, neededBytes, bucketLong, bucketFull, shortEntry, renameCauses, translateBucketCauses, translateBucketAnswer, willFitAnswer}
+use Rattle.model.specs.calls.BucketCalls.{notEntryCount, notEntryCountBy, entriesRead, bucketCauses, newBucket, neededBytes, bucketLong, bucketFull, shortEntry, renameCauses, translateBucketCauses, translateBucketAnswer, willFitAnswer}
 use Rattle.model.specs.calls.IndexCalls.{entriesCauses, indexBytes, wrongIndex, givenCauses}
 use Rattle.model.specs.calls.IndexCalls.{translateIndexCauses, translateIndexAnswer}
 use Rattle.model.proofs.IndexRows.{entryA, entryB}
@@ -178,7 +178,7 @@ indexBa = 0 ∷ 0 ∷ 0 ∷ 2 ∷ []
 
 pub held-unsound : ILseq bucketBa indexBa (slotBuckets (elements pivotsAc) (entries bucketBa)) × (InvLseq bucketBa indexBa 1 → ⊥)
     × (translateIndexAnswer pivotsAc bucketBa indexBa [] [] [] [] ≡ answers.Refused EntriesUnsorted)
-unfolding outcome paired pivotCauses notPivotCount pivotsRead records pieces elements encodeAll encode recordOf joined reading fieldReading lengthField allZero element keyBytes IsStrictlySorted risesFrom lte lteKey all bucketCauses notEntryCount entriesRead entryBytes entries entryOf encodeBucket encodeEntry entriesRise entriesCauses givenCauses only entriesBelow Index encodePlace encodeIndex slotEntries slotsFrom slotBuckets together placesFrom
+unfolding outcome paired pivotCauses notPivotCount pivotsRead records pieces elements encodeAll encode recordOf joined reading fieldReading lengthField allZero element keyBytes IsStrictlySorted risesFrom lte lteKey all bucketCauses notEntryCountBy entriesRead entryBytesBy entries entryOf encodeBucket encodeEntry entriesRise entriesCauses givenCauses only entriesBelow Index encodePlace encodeIndex slotEntries slotsFrom slotBuckets together placesFrom
 held-unsound = (record { bucket = refl; index = refl }, λ s. true≢false (sym (s .rises)), refl)
 
 -- ---- lists and their translation

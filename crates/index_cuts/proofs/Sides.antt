@@ -77,7 +77,7 @@ module _ (left : Bool) (p l x k : List ℕ) (c : ℕ) (a : Answer) (i : inside l
     slot : c + 2 ≤ length (elements p)
     slot = omega (arith, slot-there left p k wf i, f)
 
-    pub cut-inside : n * 70 ≤ length l
+    pub cut-inside : n * entrySize ≤ length l
     cut-inside = rw counted (below-inside l (key k) held rises)
 
     pub end-inside : (m : ℕ) → m ≤ 2 → (c + m) * 2 ≤ length x
@@ -86,7 +86,7 @@ module _ (left : Bool) (p l x k : List ℕ) (c : ℕ) (a : Answer) (i : inside l
     pub at-inside : c * 2 ≤ length x
     at-inside = omega (arith, slot, given-length _ _ p l x given)
 
-    pub cut-fits : Fits w64 (n * 70)
+    pub cut-fits : Fits w64 (n * entrySize)
     cut-fits = record { fits = omega (arith, cut-inside, bucket-whole false l held, bucket-most false l held) }
 
     most : c + 2 ≤ 64
@@ -104,7 +104,7 @@ module _ (left : Bool) (p l x k : List ℕ) (c : ℕ) (a : Answer) (i : inside l
     -- ---- what is lent on
 
     module _ (b : (j : ℕ) → Fits w8 (getD l j 0)) where
-      pub left-side : left ≡ true → Side left p l k n (take (n * 70) l) (take ((c + 2) * 2) x)
+      pub left-side : left ≡ true → Side left p l k n (take (n * entrySize) l) (take ((c + 2) * 2) x)
       left-side t =
           let v : ValidLeftCutOffKey (elements p) k ≡ true = rw t at i in
           let g : c ≡ CutoffForLeft (elements p) k = rw t at f in
@@ -112,12 +112,12 @@ module _ (left : Bool) (p l x k : List ℕ) (c : ℕ) (a : Answer) (i : inside l
           rw t
           record {
             bytes = rw counted (below-bytes l (key k) held rises (bytes-of l b));
-            count = rw (length-take-le (n * 70) l cut-inside, counted);
+            count = rw (length-take-le (n * entrySize) l cut-inside, counted);
             index = ap encodeIndex (index-left (elements p) k (entries l) wf v ∙ rw (d, counted, g));
             size = rw (length-take-le ((c + 2) * 2) x (end-inside 2 (omega arith)), left-length (wf-says (elements p) wf .table) k v, g);
           }
 
-      pub right-side : left ≡ false → Side left p l k n (take (length l - n * 70) (drop (n * 70) l)) (take (length x - c * 2) (drop (c * 2) x))
+      pub right-side : left ≡ false → Side left p l k n (take (length l - n * entrySize) (drop (n * entrySize) l)) (take (length x - c * 2) (drop (c * 2) x))
       right-side t =
           let v : BoundedKey (elements p) k ≡ true = rw t at i in
           let g : c ≡ CutoffForRight (elements p) k = rw t at f in
@@ -125,7 +125,7 @@ module _ (left : Bool) (p l x k : List ℕ) (c : ℕ) (a : Answer) (i : inside l
           rw (t, rest, rest)
           record {
             bytes = rw counted (from-bytes l (key k) held rises (bytes-of l b));
-            count = rw (length-drop (n * 70) l) (omega (arith, counted, from-count l (key k) held rises, bucket-whole false l held));
+            count = rw (length-drop (n * entrySize) l) (omega (arith, counted, from-count l (key k) held rises, bucket-whole false l held));
             index = ap encodeIndex (index-right (elements p) k (entries l) wf v ∙ rw (d, counted, g));
             size = rw (length-drop (c * 2) x) (omega (arith, g, given-length _ _ p l x given, right-length (wf-says (elements p) wf .table) k v));
           }
@@ -136,9 +136,9 @@ module _ (left : Bool) (p l x k : List ℕ) (c : ℕ) (a : Answer) (i : inside l
       same-causes : {A : Type 0} (g : Refusal → A) (v : A) → outcome g (roomCauses (length e) (length y) db dx) v ≡ outcome g (cutIndexCauses left p l x k db dx) v
       same-causes g v = rw (i, s .count, s .size) (after g v _ (givenCauses (tooLong k) false p l x) _ given refl)
 
-      pub side-answered : (z : Answer) → z ≡ answer (roomCauses (length e) (length y) db dx) (length e / 70) → z ≡ cutIndexAnswer left p l x k db dx
+      pub side-answered : (z : Answer) → z ≡ answer (roomCauses (length e) (length y) db dx) (length e / entrySize) → z ≡ cutIndexAnswer left p l x k db dx
       side-answered z u =
-          let m : length e / 70 ≡ length (cutEntries left l k) = omega (arith, s .count) in
+          let m : length e / entrySize ≡ length (cutEntries left l k) = omega (arith, s .count) in
           u ∙ rw m (same-causes answers.Refused (answers.Value (length (cutEntries left l k))))
 
       pub side-bucket : (w : List ℕ) → w ≡ leaves (roomCauses (length e) (length y) db dx) e db → w ≡ cutIndexLeavesBucket left p l x k db dx

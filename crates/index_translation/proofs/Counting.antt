@@ -15,7 +15,7 @@ use Rattle.model.specs.buckets.Bucket.{entrySize, entryOf, entryBytes, entries,
 use Rattle.model.specs.buckets.Index.{only}
 use Rattle.model.proofs.Lists.{getD-map}
 use Rattle.model.proofs.buckets.Renamed.{renamed-count, simple-most, simple-next}
-use Rattle.buckets.proofs.Places.{length-entryBytes, length-entries}
+use Rattle.entries.proofs.Places.{length-entryBytes, length-entries}
 use Rattle.index_translation.specs.Kept.{keptBefore}
 
 -- as many as a translation of the entries before the place has, whatever the new prefix

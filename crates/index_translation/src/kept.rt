@@ -14,7 +14,7 @@ fn kept_at(bucket: &[u8], i: usize, prefix: &[u8]) -> usize
     requires { ⌜ i < length (now bucket) / entrySize ⌝ }
     ensures { λ r. ⌜ keptBefore (now (bucket .entry)) (now (prefix .entry)) i + r ≡ keptBefore (now (bucket .entry)) (now (prefix .entry)) (i + 1) ⌝ }
 {
-    let entry = buckets::entry_at(bucket, i);
+    let entry = entries::entry_at(bucket, i);
     let k = records::key_bytes(&entry[..RECORD_SIZE]);
     if !scan::is_prefix_by_words(prefix, k) {
         return 0;

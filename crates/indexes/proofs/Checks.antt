@@ -16,7 +16,7 @@ use Rattle.model.specs.declared.Answer.the-variants.{Value, Refused}
 use Rattle.model.specs.keys.Key.{maxLen, tooLong, IsPrefix}
 use Rattle.model.specs.keys.Order.{key}
 use Rattle.model.specs.records.Record.{recordOf, encode, element, elements}
-use Rattle.model.specs.tables.Tables.{WFPivots}
+use Rattle.model.specs.tables.Tables.{maxPivots, WFPivots}
 use Rattle.model.specs.buckets.Bucket.{entrySize, entryBytes, entries, entriesRise}
 use Rattle.model.specs.buckets.Index.{entriesBelow, placeSize}
 use Rattle.model.specs.inner.Written.{clipped}
@@ -33,10 +33,10 @@ use Rattle.model.proofs.calls.BucketCalls.{bucket-read}
 use Rattle.model.proofs.calls.IndexCauses.{entries-wrong, entries-bucket, entries-rise, given-entries}
 use Rattle.model.proofs.buckets.IndexBytes.{length-encodeIndex, index-count}
 use Rattle.keys.specs.Padded.{Padded}
-use Rattle.buckets.proofs.Places.{length-entries}
+use Rattle.entries.proofs.Places.{length-entries}
 use Rattle.refusals.specs.Earlier.{earlier}
 use Rattle.refusals.proofs.InStep.{rising, inStep, told-earlier}
-use Rattle.indexes.specs.Checked.{risingCauses, Rising, Checked}
+use Rattle.indexes.specs.Rising.{risingCauses, Rising, CheckedBoth}
 
 -- ---- causes 1 to 3
 
@@ -118,7 +118,7 @@ module _ (wrong : Bool) (p l : List ℕ) (a : Answer) (m : ℕ) (e : a ≡ answe
       }
 
   -- pivots and bucket are checked
-  pub checked : Checked p l
+  pub checked : CheckedBoth p l
   checked = record { pivots = rw (causes-wrong false wrong p pivots-none) at pivots-none; bucket = bucket-rises }
 
   -- it is the count of pivots that is answered
@@ -134,7 +134,7 @@ module _ (wrong : Bool) (p l : List ℕ) (a : Answer) (m : ℕ) (e : a ≡ answe
   room-for d c h = omega (arith, pivots-counted, length-elements p)
 
 -- pivots that are checked are well formed
-pub wf-of-checked : (p l : List ℕ) → Checked p l → WFPivots (elements p) ≡ true
+pub wf-of-checked : (p l : List ℕ) → CheckedBoth p l → WFPivots (elements p) ≡ true
 wf-of-checked p l h = causes-wf false false p (h .pivots)
 
 -- 5 of another argument comes with that of the entries
@@ -177,13 +177,13 @@ build-counted p l d a m e n f t h c i o = room p l d a m e Refused (Value (lengt
 -- ---- the index given
 
 -- the places of 64 pivots have 128 bytes
-pub index-most : (p l : List ℕ) → Checked p l → length p / 66 * 2 ≤ 128
+pub index-most : (p l : List ℕ) → CheckedBoth p l → length p / 66 * 2 ≤ maxPivots * placeSize
 index-most p l h = omega (arith, length-elements p, causes-most false false p (h .pivots))
 
-pub index-room : (p l b : List ℕ) → Checked p l → length b ≡ 128 → length (elements p) * placeSize ≤ length b
+pub index-room : (p l b : List ℕ) → CheckedBoth p l → length b ≡ maxPivots * placeSize → length (elements p) * placeSize ≤ length b
 index-room p l b h e = omega (arith, length-elements p, index-most p l h)
 
-module _ (p l x : List ℕ) (h : Checked p l) where
+module _ (p l x : List ℕ) (h : CheckedBoth p l) where
   index-length : length (indexBytes p l) ≡ length p / 66 * 2
   index-length = rw (length-encodeIndex, index-count, length-elements p)
 

@@ -17,14 +17,14 @@ use Rattle.model.specs.declared.Reading.the-variants as reads
 use Rattle.model.specs.keys.Order.{key, lt, cmp}
 use Rattle.model.specs.records.Record.{recordSize, maxMark, lengthField, reading, keyReading, elementReading, element, keyBytes}
 use Rattle.model.specs.inner.Places.{entryAt}
-use Rattle.model.specs.buckets.Bucket.{Entry, entrySize, entryRecord, entryOf, entryBytes, entries}
+use Rattle.model.specs.buckets.Bucket.{Entry, entrySize, entryRecord, entryOf, entryBytes, entryBytesBy, entries}
 use Rattle.model.specs.calls.BucketCalls.{entriesRead}
 use Rattle.model.proofs.Lists.{getD-map, all-inside}
 use Rattle.model.proofs.records.Record.{key-read}
 use Rattle.model.proofs.records.Records.{piece-at}
 use Rattle.keys.specs.Padded.{Padded, paddedOrder}
 use Rattle.keys.proofs.Padded.{padded-below}
-use Rattle.buckets.proofs.Places.{past-entries, length-entryBytes, entry-size}
+use Rattle.entries.proofs.Places.{past-entries, length-entryBytes, entry-size}
 
 -- what is asked for past the last entry
 abbrev pub none-such : Entry
@@ -36,7 +36,7 @@ past-records l i h = rw (← past-entries l i h)
 
 -- inside the bucket it is the part at its place
 pub record-part : (l : List ℕ) (i : ℕ) → i < length l / entrySize → take (i * entrySize + recordSize - i * entrySize) (drop (i * entrySize) l) ≡ entryRecord (entryAt l i)
-unfolding entryBytes
+unfolding entryBytesBy
 record-part l i h = rw (add-sub-cancel-left, piece-at entrySize (length l / entrySize) i l h) (sym (take-take recordSize entrySize (drop (i * entrySize) l) (omega arith)))
 
 -- what is read as a key is read as an element, and its record stands for that key

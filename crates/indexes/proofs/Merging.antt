@@ -27,7 +27,7 @@ use Rattle.model.proofs.buckets.Below.{below-most}
 use Rattle.model.proofs.buckets.Index.{below-rises}
 use Rattle.model.proofs.buckets.IndexBytes.{aPlace, all-places, length-place, index-count, index-at}
 use Rattle.keys.specs.Padded.{Padded}
-use Rattle.indexes.specs.Checked.{Rising, Checked}
+use Rattle.indexes.specs.Rising.{Rising, CheckedBoth}
 
 -- the places before i are written, and no entry that is passed is at or behind the pivot i
 pub record Merged (p l d₀ d : List ℕ) (below i : ℕ) : Type 0 where
@@ -37,10 +37,10 @@ pub record Merged (p l d₀ d : List ℕ) (below i : ℕ) : Type 0 where
   pub bytes : d ≡ over (written encodePlace (Index (elements p) (entries l)) i) d₀
 
 -- a checked bucket rises
-pub checked-rising : (p l : List ℕ) → Checked p l → Rising l
+pub checked-rising : (p l : List ℕ) → CheckedBoth p l → Rising l
 checked-rising p l h = h .bucket
 
-module _ (p l d₀ : List ℕ) (h : Checked p l) (m : length (elements p) * 2 ≤ length d₀) where
+module _ (p l d₀ : List ℕ) (h : CheckedBoth p l) (m : length (elements p) * 2 ≤ length d₀) where
   count : length (Index (elements p) (entries l)) ≡ length p / 66
   count = index-count (elements p) (entries l) ∙ length-elements p
 

@@ -18,8 +18,8 @@ use Rattle.model.proofs.records.Records.{length-pieces, piece-at}
 use Rattle.model.proofs.calls.BucketCalls.{bucket-read}
 use Rattle.model.proofs.buckets.IndexBytes.{length-places}
 use Rattle.model.proofs.buckets.Below.{below-at, below-most}
-use Rattle.buckets.proofs.Places.{length-entries}
-use Rattle.indexes.specs.Checked.{Rising}
+use Rattle.entries.proofs.Places.{length-entries}
+use Rattle.indexes.specs.Rising.{Rising}
 use Rattle.indexes.proofs.Entries.{none-such, key-here}
 
 -- ---- the scan for a place: no entry before it isn't below

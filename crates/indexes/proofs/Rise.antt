@@ -24,8 +24,8 @@ use Rattle.model.proofs.calls.TableCalls.{length-elements, element-at}
 use Rattle.model.proofs.calls.BucketCalls.{bucket-read}
 use Rattle.model.proofs.buckets.Below.{rise-at}
 use Rattle.model.proofs.tables.Routing.{wf-count}
-use Rattle.buckets.proofs.Places.{length-entries}
-use Rattle.indexes.specs.Checked.{Rising}
+use Rattle.entries.proofs.Places.{length-entries}
+use Rattle.indexes.specs.Rising.{Rising}
 use Rattle.indexes.proofs.Entries.{none-such, key-here}
 
 -- ---- entries from a place on
@@ -124,12 +124,12 @@ module _ (p l : List ℕ) (v : WFPivots (elements p) ≡ true) (w : Rising l) wh
     first-outside h = rw (ends, not-true (lte (pivotAt (elements p) 0) (key (getD (entries l) 0 none-such .key))) (sym first-told ∙ h))
 
     -- or the last isn't below the last
-    pub last-outside : s ≡ false → (b d : List ℕ) → b ≡ entryRecord (entryAt l (length l / 70 - 1)) → d ≡ recordAt p (length p / 66 - 1) → (t : Bool) → t ≡ lt (element b) (element d)
+    pub last-outside : s ≡ false → (b d : List ℕ) → b ≡ entryRecord (entryAt l (length l / entrySize - 1)) → d ≡ recordAt p (length p / 66 - 1) → (t : Bool) → t ≡ lt (element b) (element d)
         → not t ≡ not (entriesInside (elements p) (entries l))
     last-outside h b d i j t k =
         let m : lte (pivotAt (elements p) 0) (key (getD (entries l) 0 none-such .key)) ≡ true = not-false _ (sym first-told ∙ h) in
         let x = length-entries l in
         let y = length-elements p in
-        let q : length (entries l) - 1 ≡ length l / 70 - 1 = omega arith in
+        let q : length (entries l) - 1 ≡ length l / entrySize - 1 = omega arith in
         let r : length (elements p) - 1 ≡ length p / 66 - 1 = omega arith in
-        rw (ends, m, q, r, k, i, j, key-here l read (length l / 70 - 1) (omega (arith, z)) none-such, ← element-at p (length p / 66 - 1) (omega (arith, length-elements p, wf-count (elements p) v)))
+        rw (ends, m, q, r, k, i, j, key-here l read (length l / entrySize - 1) (omega (arith, z)) none-such, ← element-at p (length p / 66 - 1) (omega (arith, length-elements p, wf-count (elements p) v)))

@@ -15,7 +15,7 @@ use Rattle.model.specs.declared.Answer.{Answer}
 use Rattle.model.specs.declared.Answer.the-variants.{Value, Refused}
 use Rattle.model.specs.records.Record.{joined, elements}
 use Rattle.model.specs.tables.Tables.{NumBuckets}
-use Rattle.model.specs.buckets.Bucket.{entries, encodeEntry, encodeBucket, sizedEntry}
+use Rattle.model.specs.buckets.Bucket.{entrySize, entries, encodeEntry, encodeBucket, sizedEntry}
 use Rattle.model.specs.buckets.Index.{Index, placeAt, slotEntries, places}
 use Rattle.model.specs.calls.Refusals.{outcome, first}
 use Rattle.model.specs.calls.BucketCalls.{bucketCauses}
@@ -99,25 +99,25 @@ module _ (p l x : List ℕ) (i : ℕ) (a : Answer) (e : a ≡ slotEntriesAnswer 
         omega
         (arith, from, upto, index-most (elements p) (entries l) (i + 1) (omega (arith, here)), index-most (elements p) (entries l) i (omega (arith, here)), index-rises (elements p) (entries l) (wf-sorted (elements p) (entries-wf false false p l (given-entries false false p l x given))) i (i + 1) (omega arith) (omega (arith, here)))
 
-    pub part-inside-bucket : k * 70 + n * 70 ≤ length l
+    pub part-inside-bucket : k * entrySize + n * entrySize ≤ length l
     part-inside-bucket = omega (arith, ends, bucket-count false l bucket, bucket-whole false l bucket)
 
-    pub from-fits : Fits w64 (k * 70)
+    pub from-fits : Fits w64 (k * entrySize)
     from-fits = record { fits = omega (arith, ends, bucket-count false l bucket, bucket-most false l bucket) }
 
-    pub count-fits : Fits w64 (n * 70)
+    pub count-fits : Fits w64 (n * entrySize)
     count-fits = record { fits = omega (arith, ends, bucket-count false l bucket, bucket-most false l bucket) }
 
-    pub end-fits : Fits w64 (k * 70 + n * 70)
+    pub end-fits : Fits w64 (k * entrySize + n * entrySize)
     end-fits = record { fits = omega (arith, ends, bucket-count false l bucket, bucket-most false l bucket) }
 
     -- it is the bytes of the slot's entries
-    pub part-is-slot : ((j : ℕ) → Fits w8 (getD l j 0)) → take (k * 70 + n * 70 - k * 70) (drop (k * 70) l) ≡ slotEntriesPart p l x i
+    pub part-is-slot : ((j : ℕ) → Fits w8 (getD l j 0)) → take (k * entrySize + n * entrySize - k * entrySize) (drop (k * entrySize) l) ≡ slotEntriesPart p l x i
     unfolding slotEntries encodeBucket
     part-is-slot b =
         let s = bucket-sized false l bucket in
         let w : encodeBucket (entries l) ≡ l = bucket-encode false l bucket (bytes-of l b) in
-        let d : joined (map encodeEntry (drop k (entries l))) ≡ drop (k * 70) l = rw (joined-drop 70 sizedEntry encodeEntry length-entry k (entries l) (omega (arith, ends)) s, w) in
-        let t : joined (map encodeEntry (take n (drop k (entries l)))) ≡ take (n * 70) (drop (k * 70) l) = rw (joined-take 70 sizedEntry encodeEntry length-entry n (drop k (entries l)) (omega (arith, ends, length-drop k (entries l))) (all-parts sizedEntry k (entries l) s .1), d) in
+        let d : joined (map encodeEntry (drop k (entries l))) ≡ drop (k * entrySize) l = rw (joined-drop entrySize sizedEntry encodeEntry length-entry k (entries l) (omega (arith, ends)) s, w) in
+        let t : joined (map encodeEntry (take n (drop k (entries l)))) ≡ take (n * entrySize) (drop (k * entrySize) l) = rw (joined-take entrySize sizedEntry encodeEntry length-entry n (drop k (entries l)) (omega (arith, ends, length-drop k (entries l))) (all-parts sizedEntry k (entries l) s .1), d) in
         let q : encodeBucket (slotEntries (elements p) (entries l) i) ≡ joined (map encodeEntry (take n (drop k (entries l)))) = rw (upto, from) in
         rw add-sub-cancel-left (sym t ∙ sym q ∙ sym (part-is p l x given i here))

@@ -6,6 +6,7 @@ use crate::place::place_from;
 use model::Answer;
 use model::ENTRY_SIZE;
 use model::MAX_LEN;
+use model::MAX_PIVOTS;
 use model::PLACE_SIZE;
 use model::RECORD_SIZE;
 use model::Refusal;
@@ -22,14 +23,14 @@ ghost use Rattle.model.specs.calls.Refusals.{paired, answer};
 ghost use Rattle.model.specs.calls.TableCalls.{pivotCauses};
 ghost use Rattle.model.specs.calls.BucketCalls.{bucketCauses};
 ghost use Rattle.model.specs.calls.IndexCalls.{entriesInside, wrongIndex, givenCauses, checkIndexAnswer};
-ghost use Rattle.indexes.specs.Checked.{risingCauses, Checked};
+ghost use Rattle.indexes.specs.Rising.{risingCauses, CheckedBoth};
 
 // Causes 1, 2 and 3 of pivots and bucket, by number over both; else the count of pivots.
 fn check_both(pivots: &[u8], bucket: &[u8], wrong: bool) -> Answer
     ensures { λ r. ⌜ r ≡ answer (paired (pivotCauses false wrong (now (pivots .entry))) (bucketCauses false (now (bucket .entry)))) (length (now (pivots .entry)) / recordSize) ⌝ }
 {
     let first = table_checks::check_pivots(pivots, false, wrong);
-    let second = buckets::check_bucket(bucket, false);
+    let second = entries::check_bucket(bucket, false);
     refusals::earlier(first, second)
 }
 
@@ -49,7 +50,7 @@ pub(crate) fn check_rising(pivots: &[u8], bucket: &[u8], wrong: bool) -> Answer
 
 // Cause 5: whether an entry is outside the table, or another argument, as the caller says.
 fn is_outside(pivots: &[u8], bucket: &[u8], outside: bool) -> bool
-    requires { ⌜ Checked (now pivots) (now bucket) ⌝ }
+    requires { ⌜ CheckedBoth (now pivots) (now bucket) ⌝ }
     ensures { λ r. ⌜ r ≡ (outside || not (entriesInside (elements (now (pivots .entry))) (entries (now (bucket .entry))))) ⌝ }
 {
     if outside {
@@ -60,14 +61,14 @@ fn is_outside(pivots: &[u8], bucket: &[u8], outside: bool) -> bool
 
 // Cause 15: whether an index isn't the one that belongs to checked pivots and bucket.
 fn is_other(pivots: &[u8], bucket: &[u8], index: &[u8]) -> bool
-    requires { ⌜ Checked (now pivots) (now bucket) ⌝ }
+    requires { ⌜ CheckedBoth (now pivots) (now bucket) ⌝ }
     ensures { λ r. ⌜ r ≡ wrongIndex (now (pivots .entry)) (now (bucket .entry)) (now (index .entry)) ⌝ }
 {
     let end = pivots.len() / RECORD_SIZE * PLACE_SIZE;
     if index.len() != end {
         return true;
     }
-    let mut built = [0u8; 128];
+    let mut built = [0u8; MAX_PIVOTS * PLACE_SIZE];
     write_index(pivots, bucket, &mut built);
     !scan::is_prefix_by_words(index, &built[..end])
 }

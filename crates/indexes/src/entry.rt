@@ -12,7 +12,7 @@ ghost use Rattle.model.specs.inner.Places.{entryAt};
 ghost use Rattle.model.specs.buckets.Bucket.{entrySize, entryRecord, entryBytes, entries, entriesRise};
 ghost use Rattle.model.specs.calls.BucketCalls.{entriesRead};
 ghost use Rattle.model.specs.calls.IndexCalls.{entriesInside};
-ghost use Rattle.indexes.specs.Checked.{Rising};
+ghost use Rattle.indexes.specs.Rising.{Rising};
 
 // The record at the head of the entry at a place; an empty part where there are fewer.
 pub(crate) fn record_at(bucket: &[u8], i: usize) -> &[u8]

@@ -10,11 +10,11 @@ ghost use Rattle.model.specs.records.Record.{elements};
 ghost use Rattle.model.specs.buckets.Index.{placeSize};
 ghost use Rattle.model.specs.calls.Refusals.{over};
 ghost use Rattle.model.specs.calls.IndexCalls.{indexBytes};
-ghost use Rattle.indexes.specs.Checked.{Checked};
+ghost use Rattle.indexes.specs.Rising.{CheckedBoth};
 
 // Writes the index of a checked bucket to the head of dest. No entry is compared again for a later pivot once it is below one.
 pub(crate) fn write_index(pivots: &[u8], bucket: &[u8], dest: &mut [u8])
-    requires { ⌜ Checked (now pivots) (now bucket) × (length (elements (now pivots)) * placeSize ≤ length (now dest)) ⌝ }
+    requires { ⌜ CheckedBoth (now pivots) (now bucket) × (length (elements (now pivots)) * placeSize ≤ length (now dest)) ⌝ }
     ensures { λ _. ⌜ now (dest .exit) ≡ over (indexBytes (now (pivots .entry)) (now (bucket .entry))) (now (dest .entry)) ⌝ }
 {
     let slots = pivots.len() / RECORD_SIZE - 1;

@@ -14,7 +14,7 @@ ghost use Rattle.model.specs.buckets.Bucket.{entrySize, entryRecord, entryBytes
 ghost use Rattle.model.specs.buckets.Index.{entriesBelow, placeAt, encodePlace, places};
 ghost use Rattle.model.specs.calls.BucketCalls.{entriesRead};
 ghost use Rattle.keys.specs.Padded.{Padded};
-ghost use Rattle.indexes.specs.Checked.{Rising};
+ghost use Rattle.indexes.specs.Rising.{Rising};
 
 // Whether the entry at a place is below what a record stands for.
 fn is_below(bucket: &[u8], i: usize, rec: &[u8]) -> bool
@@ -44,7 +44,7 @@ pub(crate) fn place_from(bucket: &[u8], rec: &[u8], from: usize) -> usize
 pub fn put_place(n: u16, dest: &mut [u8])
     ensures { λ _. ⌜ now (dest .exit) ≡ into (encodePlace n) (now (dest .entry)) ⌝ }
 {
-    let mut made = [0u8; 2];
+    let mut made = [0u8; PLACE_SIZE];
     made[0] = (n / 256) as u8;
     made[1] = (n % 256) as u8;
     records::copy(&made, dest);

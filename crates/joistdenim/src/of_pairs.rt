@@ -17,7 +17,7 @@ pub extern "C" fn jd_translate(
     ensures written { λ r. ⌜ now (dest .exit) ≡ translatePairLeaves (now (pivots .entry)) (now (edges .entry)) (now (key .entry)) (now (dest .entry)) ⌝ }
 {
     tell(
-        pair_records::translate_pair(pivots, edges, key, dest),
+        pair_translation::translate_pair(pivots, edges, key, dest),
         value,
     )
 }

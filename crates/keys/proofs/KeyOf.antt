@@ -74,7 +74,7 @@ module _ (r : List ℕ) (a : Answer) (m : ℕ) (e : a ≡ answer (pivotKeyCauses
 
 -- ---- the record at the head of an entry
 
-module _ (e : List ℕ) (h : length e ≡ 70) where
+module _ (e : List ℕ) (h : length e ≡ entrySize) where
   pub entry-room : 66 ≡ length (take 66 e)
   entry-room = sym (length-take-le 66 e (omega arith))
 

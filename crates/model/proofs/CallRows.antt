@@ -2,7 +2,7 @@
 use mathlib.Core.Path.{_≡_, refl}
 use mathlib.Core.Bool.{true, false}
 use mathlib.Core.List.{List, [], _∷_, _++_, map}
-use Prim.Native.Nat.{ℕ}
+use Prim.Native.Nat.{ℕ, _*_}
 use lib.IntN.{ℤ, pos, negsuc}
 use lib.ListN.{length}
 use Rattle.model.specs.declared.Refusal.{Refusal}
@@ -22,12 +22,13 @@ use Rattle.model.specs.translation.PrefixSet.{pair, Begins, ApplyPrefixS
 use Rattle.model.specs.translation.PairState.{notPair, pairOf, stateWith, stateOf}
 use Rattle.model.specs.translation.PairRecord.{stateAt, wrongPair, encodeState, encodePair}
 use Rattle.model.specs.translation.Renaming.{TranslateElement}
+use Rattle.model.specs.buckets.Bucket.{numberSize, entrySize}
 use Rattle.model.specs.calls.Refusals.{outcome, answerNumber, comparedNumber, told, toldOrder, decidedAnswer, slotAnswer}
 use Rattle.model.specs.calls.KeyCalls.{compareAnswer, pivotKeyAnswer, entryKeyAnswer, entryKeyPart}
 use Rattle.model.specs.calls.TableCalls.{notPivotCount, notEdgeCount, pivotsRead, edgesRead, pivotCauses, tableCauses, wfEdgesAnswer}
 use Rattle.model.specs.calls.PairCalls.{applyAnswer}
 use Rattle.model.specs.calls.PairRecordCalls.{applyPairAnswer}
-use Rattle.model.specs.calls.BucketCalls.{notEntryCount}
+use Rattle.model.specs.calls.BucketCalls.{notEntryCount, notEntryCountBy}
 use Rattle.model.specs.Rows.{pivotsT, edgesT}
 
 -- ---- refusals
@@ -75,8 +76,8 @@ unfolding outcome encode encodeEdge recordOf reading fieldReading lengthField al
 compared-records = (refl, refl, refl, refl, refl, refl, refl, refl)
 
 -- neither a pivot that is max nor an entry with a mark in place of its key has a key
-pub keys-of-records : (pivotKeyAnswer recordA ≡ Value 1) × (pivotKeyAnswer (encode max) ≡ Refused Malformed) × (entryKeyAnswer (recordA ++ zeros 4) ≡ Value 1) × (entryKeyPart (recordA ++ zeros 4) ≡ 0x41 ∷ [])
-    × (entryKeyAnswer (encode max ++ zeros 4) ≡ Refused Malformed) × (entryKeyPart (encode max ++ zeros 4) ≡ []) × (entryKeyAnswer (encodeEdge noEdge ++ zeros 4) ≡ Refused Malformed) × (entryKeyAnswer recordA ≡ Refused Shape)
+pub keys-of-records : (pivotKeyAnswer recordA ≡ Value 1) × (pivotKeyAnswer (encode max) ≡ Refused Malformed) × (entryKeyAnswer (recordA ++ zeros numberSize) ≡ Value 1) × (entryKeyPart (recordA ++ zeros numberSize) ≡ 0x41 ∷ [])
+    × (entryKeyAnswer (encode max ++ zeros numberSize) ≡ Refused Malformed) × (entryKeyPart (encode max ++ zeros numberSize) ≡ []) × (entryKeyAnswer (encodeEdge noEdge ++ zeros numberSize) ≡ Refused Malformed) × (entryKeyAnswer recordA ≡ Refused Shape)
 unfolding outcome encode encodeEdge recordOf reading fieldReading lengthField allZero keyBytes
 keys-of-records = (refl, refl, refl, refl, refl, refl, refl, refl)
 
@@ -88,9 +89,9 @@ max-stays p q = (refl, refl)
 -- ---- counts and lengths
 
 -- a bucket has at most 512 entries, of 70 bytes each
-pub most-entries : (l : List ℕ) → (length l ≡ 35840 → notEntryCount l ≡ false) × (length l ≡ 35910 → notEntryCount l ≡ true)
-unfolding notEntryCount
-most-entries l = (λ h. rw h, λ h. rw h)
+pub most-entries : (l : List ℕ) → (entrySize ≡ 70) × (length l ≡ 512 * entrySize → notEntryCount l ≡ false) × (length l ≡ 513 * entrySize → notEntryCount l ≡ true)
+unfolding notEntryCountBy
+most-entries l = (refl, λ h. rw h, λ h. rw h)
 
 -- T with one edge, or with three, is 1 and not 4
 abbrev pub edgesOfT : EdgeTable → Decided

@@ -2,7 +2,7 @@
 use mathlib.Core.Path.{_≡_, refl}
 use mathlib.Core.Bool.{true}
 use mathlib.Core.List.{List, [], _∷_, _++_}
-use Prim.Native.Nat.{ℕ, _*_}
+use Prim.Native.Nat.{ℕ, _*_, _-_}
 use Rattle.model.specs.declared.Answer.{Answer}
 use Rattle.model.specs.declared.Answer.the-variants.{Value, Refused}
 use Rattle.model.specs.declared.Decided.{Decided}
@@ -27,8 +27,8 @@ use Rattle.model.specs.calls.TranslationCalls.{translateKeyAnswer}
 use Rattle.model.specs.calls.InsertionCalls.{insertAnswer}
 use Rattle.model.specs.calls.JoinCalls.{joinAnswer}
 use Rattle.model.specs.calls.RenamingCalls.{pivotsAnswer}
-use Rattle.model.specs.buckets.Bucket.{Entry, entryBytes, entries, entryOf, encodeEntry, encodeBucket, TranslateBucket}
-use Rattle.model.specs.calls.BucketCalls.{notEntryCount, entriesRead, bucketCauses, neededBytes, translateBucketAnswer, willFitAnswer}
+use Rattle.model.specs.buckets.Bucket.{Entry, numberSize, entrySize, entryBytesBy, entries, entryOf, encodeEntry, encodeBucket, TranslateBucket}
+use Rattle.model.specs.calls.BucketCalls.{notEntryCountBy, entriesRead, bucketCauses, neededBytes, translateBucketAnswer, willFitAnswer}
 use Rattle.model.specs.list.ShelfList.{header, dash, digit, decimal, hex, keyText, elementText, edgeText, slotLine, slotLines, tableText}
 use Rattle.model.specs.list.ShelfList.{listPivots, listEdges, notListSize, listCauses, shelfList}
 use Rattle.model.specs.Rows.{AllHold, rows, pivotsT, edgesT, inputT, headerLine, linesT}
@@ -52,9 +52,12 @@ pub four-before-five : translateKeyAnswer (encodeAll (key (0x41 ∷ []) ∷ key 
 unfolding outcome tableCauses pivotCauses notPivotCount notEdgeCount pivotsRead edgesRead records pieces elements edges encodeAll encodeEdges encode encodeEdge recordOf joined reading fieldReading lengthField allZero element edgeOf keyBytes IsStrictlySorted risesFrom lte lteKey all WFEdges edgesFit PivotLcp lcp lcpright
 four-before-five = refl
 
--- Three entries, as in FORMAT.md, of which a change of 41 to 43 keeps two: 139 bytes of destination are refused with 10, and 140 are enough. Where a change keeps none, 0 bytes are enough. With a new prefix of 64 bytes and no room, 8 comes before 10
+-- Three entries, as in FORMAT.md, of which a change of 41 to 43 keeps two: a byte less than two entries have is refused with 10, and their bytes are enough. Where a change keeps none, 0 bytes are enough. With a new prefix of 64 bytes and no room, 8 comes before 10
+abbrev pub numberOne : List ℕ
+numberOne = zeros (numberSize - 1) ++ 1 ∷ []
+
 abbrev pub entryOne : Key → Entry
-entryOne k = record { key = k; number = 0 ∷ 0 ∷ 0 ∷ 1 ∷ [] }
+entryOne k = record { key = k; number = numberOne }
 
 abbrev pub threeEntries : List ℕ
 threeEntries = encodeBucket (entryOne (0x42 ∷ []) ∷ entryOne (0x41 ∷ 0x35 ∷ []) ∷ entryOne (0x41 ∷ 0x30 ∷ []) ∷ [])
@@ -62,18 +65,18 @@ threeEntries = encodeBucket (entryOne (0x42 ∷ []) ∷ entryOne (0x41 ∷ 0x35 
 abbrev pub threeRenamed : Key → Key → List ℕ → Answer
 threeRenamed p q d = translateBucketAnswer threeEntries p q d
 
-pub room-of-three : (threeRenamed (0x41 ∷ []) (0x43 ∷ []) (zeros 139) ≡ Refused NoRoom) × (threeRenamed (0x41 ∷ []) (0x43 ∷ []) (zeros 140) ≡ Value 2)
+pub room-of-three : (threeRenamed (0x41 ∷ []) (0x43 ∷ []) (zeros (2 * entrySize - 1)) ≡ Refused NoRoom) × (threeRenamed (0x41 ∷ []) (0x43 ∷ []) (zeros (2 * entrySize)) ≡ Value 2)
     × (threeRenamed (0x44 ∷ []) (0x43 ∷ []) [] ≡ Value 0) × (threeRenamed (0x41 ∷ []) (zeros 64) [] ≡ Refused TooLong)
-unfolding outcome bucketCauses notEntryCount entriesRead neededBytes entryBytes entries entryOf pieces encodeBucket encodeEntry joined recordOf reading fieldReading lengthField allZero keyBytes all IsPrefix changePrefix TranslateBucket
+unfolding outcome bucketCauses notEntryCountBy entriesRead neededBytes entryBytesBy entries entryOf pieces encodeBucket encodeEntry joined recordOf reading fieldReading lengthField allZero keyBytes all IsPrefix changePrefix TranslateBucket
 room-of-three = (refl, refl, refl, refl)
 
 -- whether those three entries will fit is told as the call answers it, and a prefix of 65 bytes is refused
 abbrev pub threeFit : Key → Key → ℕ → Decided
 threeFit p q n = willFitAnswer threeEntries p q n
 
-pub fit-of-three : (threeFit (0x41 ∷ []) (0x43 ∷ []) 139 ≡ No) × (threeFit (0x41 ∷ []) (0x43 ∷ []) 140 ≡ Yes) × (threeFit (0x44 ∷ []) (0x43 ∷ []) 0 ≡ Yes)
-    × (threeFit (0x41 ∷ []) (zeros 64) 140 ≡ No) × (threeFit (0x41 ∷ []) (zeros 65) 140 ≡ decided.Refused Malformed)
-unfolding outcome bucketCauses notEntryCount entriesRead neededBytes entryBytes entries entryOf pieces encodeBucket encodeEntry joined recordOf reading fieldReading lengthField allZero keyBytes all IsPrefix changePrefix TranslateBucket
+pub fit-of-three : (threeFit (0x41 ∷ []) (0x43 ∷ []) (2 * entrySize - 1) ≡ No) × (threeFit (0x41 ∷ []) (0x43 ∷ []) (2 * entrySize) ≡ Yes) × (threeFit (0x44 ∷ []) (0x43 ∷ []) 0 ≡ Yes)
+    × (threeFit (0x41 ∷ []) (zeros 64) (2 * entrySize) ≡ No) × (threeFit (0x41 ∷ []) (zeros 65) (2 * entrySize) ≡ decided.Refused Malformed)
+unfolding outcome bucketCauses notEntryCountBy entriesRead neededBytes entryBytesBy entries entryOf pieces encodeBucket encodeEntry joined recordOf reading fieldReading lengthField allZero keyBytes all IsPrefix changePrefix TranslateBucket
 fit-of-three = (refl, refl, refl, refl, refl)
 
 -- T with 41 31 put in, as FORMAT has it; its last pivot is refused with 11, and what is above it with 5

@@ -8,10 +8,10 @@ use borrow.Author.Tests.{lt-ltb, le-ltb}
 use lib.ListN.{length, take, drop, getD}
 use lib.Seq.{take-take}
 use Rattle.model.specs.declared.Answer.{Answer}
-use Rattle.model.specs.keys.Key.{Key}
+use Rattle.model.specs.keys.Key.{Key, maxLen}
 use Rattle.model.specs.records.Record.{lengthField}
 use Rattle.model.specs.translation.PairState.{notPair}
-use Rattle.model.specs.translation.PairRecord.{stateAt, wrongPair}
+use Rattle.model.specs.translation.PairRecord.{headSize, pairSize, stateAt, wrongPair}
 use Rattle.model.specs.calls.Refusals.{outcome}
 use Rattle.model.specs.calls.KeyCalls.{changePrefixAnswer, changePrefixLeaves}
 use Rattle.model.specs.calls.PairCalls.{applyAnswer, applyLeaves}
@@ -22,7 +22,7 @@ use Rattle.pairs.proofs.Results.{apply-absent, keep-absent, apply-there, change
 use Rattle.pair_records.proofs.Reading.{sized, flagged}
 
 -- with a flag of 0 or 1 it is the pair's own call
-module _ (b d : List ℕ) (k : Key) (h : length b ≡ 133) (i : getD b 0 0 ≤ 1) where
+module _ (b d : List ℕ) (k : Key) (h : length b ≡ pairSize) (i : getD b 0 0 ≤ 1) where
   answered : (x : Answer) → x ≡ applyAnswer (stateAt b) k d → x ≡ applyPairAnswer b k d
   unfolding outcome
   answered x y = rw (sized b h, flagged b i) y
@@ -32,7 +32,7 @@ module _ (b d : List ℕ) (k : Key) (h : length b ≡ 133) (i : getD b 0 0 ≤ 1
   written w y = rw (sized b h, flagged b i) y
 
 -- with a flag of 0 the pair is absent
-module _ (b d : List ℕ) (k : Key) (h : length b ≡ 133) (z : getD b 0 0 ≡ 0) where
+module _ (b d : List ℕ) (k : Key) (h : length b ≡ pairSize) (z : getD b 0 0 ≡ 0) where
   no-pair : stateAt b .there ≡ false
   unfolding stateAt
   no-pair = rw z
@@ -76,21 +76,21 @@ module _ (b : List ℕ) (i : getD b 0 0 ≤ 1) (z : getD b 0 0 ≡ 0 → ⊥) wh
         right : false ≡ notPair (stateAt b)
         right = long-new (stateAt b) false is-there (rw old-length at l) (rw (← new-length) (sym (le-ltb 64 m o)))
 
-        old-part : take (5 + n - 5) (drop 5 b) ≡ take (stateAt b .oldLength) (stateAt b .oldBytes)
+        old-part : take (headSize + n - headSize) (drop headSize b) ≡ take (stateAt b .oldLength) (stateAt b .oldBytes)
         unfolding stateAt
-        old-part = let e : 5 + n - 5 ≡ n = omega arith in rw (← old-length, take-take n 64 (drop 5 b) l, e)
+        old-part = let e : headSize + n - headSize ≡ n = omega arith in rw (← old-length, take-take n 64 (drop headSize b) l, e)
 
-        new-part : take (69 + m - 69) (drop 69 b) ≡ take (stateAt b .newLength) (stateAt b .newBytes)
+        new-part : take ((headSize + maxLen) + m - (headSize + maxLen)) (drop (headSize + maxLen) b) ≡ take (stateAt b .newLength) (stateAt b .newBytes)
         unfolding stateAt
-        new-part = let e : 69 + m - 69 ≡ m = omega arith in rw (← new-length, take-take m 64 (drop 69 b) o, e)
+        new-part = let e : (headSize + maxLen) + m - (headSize + maxLen) ≡ m = omega arith in rw (← new-length, take-take m 64 (drop (headSize + maxLen) b) o, e)
 
-        module _ (k d : List ℕ) (h : length b ≡ 133) where
-          pub changed-answered : (a : Answer) → a ≡ changePrefixAnswer k (take (5 + n - 5) (drop 5 b)) (take (69 + m - 69) (drop 69 b)) d
+        module _ (k d : List ℕ) (h : length b ≡ pairSize) where
+          pub changed-answered : (a : Answer) → a ≡ changePrefixAnswer k (take (headSize + n - headSize) (drop headSize b)) (take ((headSize + maxLen) + m - (headSize + maxLen)) (drop (headSize + maxLen) b)) d
               → a ≡ applyPairAnswer b k d
           changed-answered a u =
               answered b d k h i a (apply-there (stateAt b) false right refl k d (rw is-there) a (rw (old-part, new-part) at u))
 
-          pub changed-written : (w : List ℕ) → w ≡ changePrefixLeaves k (take (5 + n - 5) (drop 5 b)) (take (69 + m - 69) (drop 69 b)) d
+          pub changed-written : (w : List ℕ) → w ≡ changePrefixLeaves k (take (headSize + n - headSize) (drop headSize b)) (take ((headSize + maxLen) + m - (headSize + maxLen)) (drop (headSize + maxLen) b)) d
               → w ≡ applyPairLeaves b k d
           changed-written w u =
               written b d k h i w (change-there (stateAt b) false right refl k d (rw is-there) w (rw (old-part, new-part) at u))

@@ -1,13 +1,17 @@
 // The calls on pairs as records.
-use crate::record::PAIR_SIZE;
-use crate::record::place;
+use crate::record::NEW;
+use crate::record::NEW_LEN;
+use crate::record::OLD;
+use crate::record::OLD_LEN;
+use crate::record::place_pair;
 use crate::record::read_pair;
 use crate::record::wide;
 use model::Answer;
 use model::MAX_LEN;
+use model::PAIR_SIZE;
 use model::Refusal;
 ghost use mathlib.Core.Path.{_≡_};
-ghost use Rattle.model.specs.calls.PairRecordCalls.{reversePairAnswer, reversePairLeaves, applyPairAnswer, applyPairLeaves, composePairsAnswer, composePairsLeaves, translatePairAnswer, translatePairLeaves};
+ghost use Rattle.model.specs.calls.PairRecordCalls.{reversePairAnswer, reversePairLeaves, applyPairAnswer, applyPairLeaves, composePairsAnswer, composePairsLeaves};
 
 // RevPrefixSet: the pair with its prefixes exchanged, at the head of dest. Answers 1 where it is there, 0 where it is
 // absent. Refuses 1, 2 and 10.
@@ -21,7 +25,7 @@ pub fn reverse_pair(pair: &[u8], dest: &mut [u8]) -> Answer
     if 1 < pair[0] {
         return Answer::Refused(Refusal::Malformed);
     }
-    place(read_pair(pair).reverse(), dest)
+    place_pair(read_pair(pair).reverse(), dest)
 }
 
 // ApplyPrefixSet: the key with the pair's old prefix changed to its new one, at the head of dest. Answers its length.
@@ -40,17 +44,17 @@ pub fn apply_pair(pair: &[u8], key: &[u8], dest: &mut [u8]) -> Answer
         // an absent pair, ε changed to ε: the key itself
         return keys::change_prefix(key, &key[..0], &key[..0], dest);
     }
-    let n = wide(records::length_field(&pair[1..]));
-    let m = wide(records::length_field(&pair[3..]));
+    let n = wide(records::length_field(&pair[OLD_LEN..]));
+    let m = wide(records::length_field(&pair[NEW_LEN..]));
     if MAX_LEN < n {
         return Answer::Refused(Refusal::Malformed);
     }
     if MAX_LEN < m {
         return Answer::Refused(Refusal::Malformed);
     }
-    let p = 5 + n;
-    let q = 69 + m;
-    keys::change_prefix(key, &pair[5..p], &pair[69..q], dest)
+    let p = OLD + n;
+    let q = NEW + m;
+    keys::change_prefix(key, &pair[OLD..p], &pair[NEW..q], dest)
 }
 
 // ComposePrefixSet: the pair that undoes b and then does a, at the head of dest. Answers 1 where it is there, 0 where it
@@ -71,14 +75,5 @@ pub fn compose_pairs(a: &[u8], b: &[u8], dest: &mut [u8]) -> Answer
     if 1 < b[0] {
         return Answer::Refused(Refusal::Malformed);
     }
-    place(read_pair(a).compose(read_pair(b)), dest)
-}
-
-// Translate: the pair of the key's slot, at the head of dest. Answers 1 where it is there, 0 where it is absent.
-// Refuses 1, 2, 3, 4, 5 and 10.
-pub fn translate_pair(pivots: &[u8], edges: &[u8], key: &[u8], dest: &mut [u8]) -> Answer
-    ensures answered { λ r. ⌜ r ≡ translatePairAnswer (now (pivots .entry)) (now (edges .entry)) (now (key .entry)) (now (dest .entry)) ⌝ }
-    ensures written { λ r. ⌜ now (dest .exit) ≡ translatePairLeaves (now (pivots .entry)) (now (edges .entry)) (now (key .entry)) (now (dest .entry)) ⌝ }
-{
-    place(translation::translate(pivots, edges, key), dest)
+    place_pair(read_pair(a).compose(read_pair(b)), dest)
 }

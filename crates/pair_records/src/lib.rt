@@ -5,4 +5,6 @@ mod record;
 pub use calls::apply_pair;
 pub use calls::compose_pairs;
 pub use calls::reverse_pair;
-pub use calls::translate_pair;
+pub use record::place_pair;
+pub use record::put_pair;
+pub use record::read_pair;

@@ -1,5 +1,7 @@
 // A pair's record, read and written.
 use model::Answer;
+use model::MAX_LEN;
+use model::PAIR_SIZE;
 use model::Refusal;
 use pairs::Paired;
 use pairs::PrefixSet;
@@ -8,13 +10,19 @@ ghost use mathlib.Core.List.{_∷_, []};
 ghost use Prim.Native.Nat.{_/_, _%_, _≤_};
 ghost use lib.ListN.{length};
 ghost use Rattle.model.specs.keys.Key.{maxLen};
-ghost use Rattle.model.specs.translation.PairRecord.{pairSize, flag, stateAt, encodeState};
+ghost use Rattle.model.specs.translation.PairRecord.{pairSize, flag, encodeState};
 ghost use Rattle.model.specs.calls.Refusals.{over};
 ghost use Rattle.pairs.specs.State.{state};
-ghost use Rattle.pair_records.specs.Placed.{placedAnswer, placedLeaves};
+ghost use Rattle.pair_records.specs.Placed.{stateRead, statePut, placedAnswer, placedLeaves};
 
-// A record's size: the flag, the length fields at 1 and 3, the arrays at 5 and 69.
-pub(crate) const PAIR_SIZE: usize = 133;
+// Where the two length fields stand, after the flag, and the two arrays.
+pub(crate) const OLD_LEN: usize = 1;
+
+pub(crate) const NEW_LEN: usize = 3;
+
+pub(crate) const OLD: usize = 5;
+
+pub(crate) const NEW: usize = OLD + MAX_LEN;
 
 pub(crate) fn wide(x: u16) -> usize
     ensures { λ r. ⌜ r ≡ x ⌝ }
@@ -22,16 +30,18 @@ pub(crate) fn wide(x: u16) -> usize
     x as usize
 }
 
-// The pair that a record holds, whatever its flag.
-pub(crate) fn read_pair(rec: &[u8]) -> PrefixSet
-    requires { ⌜ length (now rec) ≡ pairSize ⌝ }
-    ensures { λ r. ⌜ state r ≡ stateAt (now (rec .entry)) ⌝ }
+// The pair that a record holds, whatever its flag; of a slice that isn't a record the absent one.
+pub fn read_pair(rec: &[u8]) -> PrefixSet
+    ensures { λ r. ⌜ state r ≡ stateRead (now (rec .entry)) ⌝ }
 {
+    if rec.len() != PAIR_SIZE {
+        return PrefixSet::absent();
+    }
     let there = rec[0] == 1;
-    let oldlen = wide(records::length_field(&rec[1..]));
-    let newlen = wide(records::length_field(&rec[3..]));
-    let old = pairs::padded(&rec[5..69]);
-    let new = pairs::padded(&rec[69..]);
+    let oldlen = wide(records::length_field(&rec[OLD_LEN..]));
+    let newlen = wide(records::length_field(&rec[NEW_LEN..]));
+    let old = pairs::padded(&rec[OLD..NEW]);
+    let new = pairs::padded(&rec[NEW..]);
     PrefixSet {
         there,
         oldlen,
@@ -52,7 +62,7 @@ fn mark(there: bool) -> u8
 }
 
 // The flag and the two length fields.
-fn header(there: bool, oldlen: usize, newlen: usize) -> [u8; 5]
+fn header(there: bool, oldlen: usize, newlen: usize) -> [u8; OLD]
     requires { ⌜ (oldlen ≤ maxLen) × (newlen ≤ maxLen) ⌝ }
     ensures { λ r. ⌜ r ≡ flag there ∷ oldlen / 256 ∷ oldlen % 256 ∷ newlen / 256 ∷ newlen % 256 ∷ [] ⌝ }
 {
@@ -65,7 +75,7 @@ fn header(there: bool, oldlen: usize, newlen: usize) -> [u8; 5]
     ]
 }
 
-// Writes a pair's record to the head of dest.
+// Writes a pair's record to the head of dest, which has room for it.
 fn write_pair(pair: PrefixSet, dest: &mut [u8])
     requires { ⌜ (pair .oldlen ≤ maxLen) × (pair .newlen ≤ maxLen) × (pairSize ≤ length (now dest)) ⌝ }
     ensures { λ _. ⌜ now (dest .exit) ≡ over (encodeState (state pair)) (now (dest .entry)) ⌝ }
@@ -74,13 +84,29 @@ fn write_pair(pair: PrefixSet, dest: &mut [u8])
     let old = pair.old;
     let new = pair.new;
     records::join(&head, &old, dest);
-    records::copy(&new, &mut dest[69..]);
+    records::copy(&new, &mut dest[NEW..]);
+}
+
+// Writes a pair's record to the head of dest. Nothing is written where there is no room for it, or where a length passes
+// 64, which no result's does.
+pub fn put_pair(pair: PrefixSet, dest: &mut [u8])
+    ensures { λ _. ⌜ now (dest .exit) ≡ statePut (state pair) (now (dest .entry)) ⌝ }
+{
+    if dest.len() < PAIR_SIZE {
+        return;
+    }
+    if MAX_LEN < pair.oldlen {
+        return;
+    }
+    if MAX_LEN < pair.newlen {
+        return;
+    }
+    write_pair(pair, dest);
 }
 
 // An answer with the pair beside it: a refusal is handed on; else 10 where there is no room for a record, and else
-// the pair's record is written to the head of dest.
-pub(crate) fn place(made: Paired, dest: &mut [u8]) -> Answer
-    requires { ⌜ (made .pair .oldlen ≤ maxLen) × (made .pair .newlen ≤ maxLen) ⌝ }
+// the pair is written to the head of dest, as `put_pair` does.
+pub fn place_pair(made: Paired, dest: &mut [u8]) -> Answer
     ensures answered { λ r. ⌜ r ≡ placedAnswer (made .answer) (now (dest .entry)) ⌝ }
     ensures written { λ r. ⌜ now (dest .exit) ≡ placedLeaves (made .answer) (state (made .pair)) (now (dest .entry)) ⌝ }
 {
@@ -92,6 +118,6 @@ pub(crate) fn place(made: Paired, dest: &mut [u8]) -> Answer
         return Answer::Refused(Refusal::NoRoom);
     }
     let pair = made.pair;
-    write_pair(pair, dest);
+    put_pair(pair, dest);
     answer
 }

@@ -2,6 +2,7 @@
 use crate::Paired;
 use crate::PrefixSet;
 use model::Answer;
+use model::MAX_LEN;
 ghost use mathlib.Core.Path.{_≡_};
 ghost use mathlib.Core.Bool.{true};
 ghost use mathlib.Core.Option.{none};
@@ -34,7 +35,7 @@ pub(crate) fn made(old: &[u8], new: &[u8]) -> Paired
 }
 
 // The pair of two arrays with their lengths, and the answer that it is there.
-pub(crate) fn there(old: [u8; 64], oldlen: usize, new: [u8; 64], newlen: usize) -> Paired
+pub(crate) fn there(old: [u8; MAX_LEN], oldlen: usize, new: [u8; MAX_LEN], newlen: usize) -> Paired
     ensures { λ r. ⌜ (r .answer ≡ Answer.Value 1) × (state (r .pair) ≡ record { there = true; oldLength = oldlen; newLength = newlen; oldBytes = old; newBytes = new }) ⌝ }
 {
     let pair = PrefixSet {
@@ -57,7 +58,7 @@ pub(crate) fn composed(ap: &[u8], aq: &[u8], bp: &[u8], bq: &[u8]) -> Paired
     ensures answered { λ r. ⌜ r .answer ≡ pairAnswer (composition (pair (now (ap .entry)) (now (aq .entry))) (pair (now (bp .entry)) (now (bq .entry)))) (ComposePrefixSet (pair (now (ap .entry)) (now (aq .entry))) (pair (now (bp .entry)) (now (bq .entry)))) ⌝ }
     ensures paired { λ r. ⌜ state (r .pair) ≡ pairBeside (composition (pair (now (ap .entry)) (now (aq .entry))) (pair (now (bp .entry)) (now (bq .entry)))) (ComposePrefixSet (pair (now (ap .entry)) (now (aq .entry))) (pair (now (bp .entry)) (now (bq .entry)))) ⌝ }
 {
-    let mut room = [0u8; 64];
+    let mut room = [0u8; MAX_LEN];
     if ap.len() <= bp.len() {
         let changed = keys::change_prefix_small(bp, ap, aq, &mut room);
         let Answer::Value(n) = changed else {

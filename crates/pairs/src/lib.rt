@@ -24,8 +24,8 @@ pub struct PrefixSet {
     pub there: bool,
     pub oldlen: usize,
     pub newlen: usize,
-    pub old: [u8; 64],
-    pub new: [u8; 64],
+    pub old: [u8; MAX_LEN],
+    pub new: [u8; MAX_LEN],
 }
 
 // A pair and the answer beside it: 1 where the pair is there, 0 where it is absent. Beside a refusal it is absent.
@@ -39,8 +39,8 @@ impl PrefixSet {
     pub fn absent() -> Self
         ensures { λ r. ⌜ state r ≡ stateOf none ⌝ }
     {
-        let old = [0u8; 64];
-        let new = [0u8; 64];
+        let old = [0u8; MAX_LEN];
+        let new = [0u8; MAX_LEN];
         PrefixSet {
             there: false,
             oldlen: 0,

@@ -8,11 +8,11 @@ ghost use Rattle.model.specs.records.Record.{padded};
 ghost use Rattle.model.specs.inner.Written.{clipped};
 
 // The first 64 bytes of k, and zeros after them.
-pub fn padded(k: &[u8]) -> [u8; 64]
+pub fn padded(k: &[u8]) -> [u8; MAX_LEN]
     ensures { λ r. ⌜ r ≡ padded (clipped (now (k .entry))) ⌝ }
 {
     let n = scan::least(k.len(), MAX_LEN);
-    let mut made = [0u8; 64];
+    let mut made = [0u8; MAX_LEN];
     let mut i = 0;
     while i < n {
         made[i] = k[i];
@@ -33,12 +33,12 @@ fn pick(yes: bool, b: u8) -> u8
 
 // The first n of 64 bytes, and zeros after them. Each byte is chosen, none is passed over: the compiler makes whole
 // registers of it.
-pub(crate) fn cleared(k: &[u8], n: usize) -> [u8; 64]
+pub(crate) fn cleared(k: &[u8], n: usize) -> [u8; MAX_LEN]
     requires { ⌜ length (now k) ≡ maxLen ⌝ }
     ensures { λ r. ⌜ r ≡ padded (take n (now (k .entry))) ⌝ }
 {
     let m = scan::least(n, MAX_LEN) as u8;
-    let mut made = [0u8; 64];
+    let mut made = [0u8; MAX_LEN];
     let mut j = 0u8;
     let mut i = 0;
     while i < MAX_LEN {

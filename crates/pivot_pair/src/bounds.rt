@@ -5,7 +5,7 @@ ghost use mathlib.Core.Path.{_≡_};
 ghost use mathlib.Core.Bool.{true, false};
 ghost use Prim.Native.Nat.{_+_, _*_, _-_, _≤_};
 ghost use lib.ListN.{length};
-ghost use Rattle.model.specs.keys.Key.{IsPrefix, changePrefix, tooLong};
+ghost use Rattle.model.specs.keys.Key.{maxLen, IsPrefix, changePrefix, tooLong};
 ghost use Rattle.model.specs.keys.Order.{key};
 ghost use Rattle.model.specs.records.Record.{recordSize, element, encode, encodeAll};
 ghost use Rattle.model.specs.tables.Tables.{shortElement};
@@ -28,7 +28,7 @@ pub(crate) fn has_prefix(rec: &[u8], prefix: &[u8]) -> bool
 
 // Whether the key with its prefix changed passes 64 bytes.
 fn changed_long(k: &[u8], prefix: &[u8], new_prefix: &[u8]) -> bool
-    requires { ⌜ (IsPrefix (now prefix) (now k) ≡ true) × (length (now k) ≤ 64) × (length (now «new_prefix») ≤ 64) ⌝ }
+    requires { ⌜ (IsPrefix (now prefix) (now k) ≡ true) × (length (now k) ≤ maxLen) × (length (now «new_prefix») ≤ maxLen) ⌝ }
     ensures { λ r. ⌜ r ≡ tooLong (changePrefix (now (prefix .entry)) (now («new_prefix» .entry)) (now (k .entry))) ⌝ }
 {
     MAX_LEN < new_prefix.len() + (k.len() - prefix.len())
@@ -56,15 +56,11 @@ pub(crate) fn too_long(
 
 // Writes the record of the key with its prefix changed to the head of dest.
 fn put_changed(k: &[u8], prefix: &[u8], new_prefix: &[u8], dest: &mut [u8])
-    requires { ⌜ (length (now prefix) ≤ length (now k)) × (length (now «new_prefix») + (length (now k) - length (now prefix)) ≤ 64) ⌝ }
+    requires { ⌜ (length (now prefix) ≤ length (now k)) × (length (now «new_prefix») + (length (now k) - length (now prefix)) ≤ maxLen) × (recordSize ≤ length (now dest)) ⌝ }
     ensures { λ _. ⌜ now (dest .exit) ≡ into (encode (key (changePrefix (now (prefix .entry)) (now («new_prefix» .entry)) (now (k .entry))))) (now (dest .entry)) ⌝ }
 {
     let p = prefix.len();
-    let n = new_prefix.len() + (k.len() - p);
-    let at = 2 + new_prefix.len();
-    let mut made = records::record_of(n as u16, new_prefix);
-    records::copy(&k[p..], &mut made[at..]);
-    records::store(made, dest);
+    records::put_joined(new_prefix, &k[p..], dest);
 }
 
 // Writes the record of the upper bound of the new prefix to the head of dest, where there is room for it.
@@ -77,7 +73,7 @@ fn put_upper(new_prefix: &[u8], dest: &mut [u8])
 // Writes the record of the new right bound to the head of dest: the right one with its prefix changed or, where it
 // lacks the prefix, the upper bound of the new prefix.
 fn put_right(right: &[u8], prefix: &[u8], new_prefix: &[u8], goes_on: bool, dest: &mut [u8])
-    requires { ⌜ («goes_on» ≡ hasPrefix (now prefix) (element (now right))) × (length (now «new_prefix») ≤ 64) × (shortElement (translateRight (now prefix) (now «new_prefix») (element (now right))) ≡ true) × (recordSize ≤ length (now dest)) ⌝ }
+    requires { ⌜ («goes_on» ≡ hasPrefix (now prefix) (element (now right))) × (length (now «new_prefix») ≤ maxLen) × (shortElement (translateRight (now prefix) (now «new_prefix») (element (now right))) ≡ true) × (recordSize ≤ length (now dest)) ⌝ }
     ensures { λ _. ⌜ now (dest .exit) ≡ into (encode (translateRight (now (prefix .entry)) (now («new_prefix» .entry)) (element (now (right .entry))))) (now (dest .entry)) ⌝ }
 {
     if goes_on {

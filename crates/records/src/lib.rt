@@ -1,10 +1,12 @@
 // Records of 66 bytes: what they say, and how they are written. No public function has a `requires`.
 mod blocks;
+mod joined;
 mod read;
 mod write;
 
 pub use blocks::copy_by_blocks;
 pub use blocks::join_by_blocks;
+pub use joined::put_joined;
 pub use read::edge_kind;
 pub use read::field_reading;
 pub use read::holds_edge;

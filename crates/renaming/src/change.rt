@@ -1,9 +1,9 @@
 // The pivots but the last, with their prefix changed.
-use crate::record::put_joined;
 use model::Answer;
 use model::MAX_LEN;
 use model::RECORD_SIZE;
 use model::Refusal;
+use records::put_joined;
 ghost use mathlib.Core.Path.{_≡_};
 ghost use mathlib.Core.Bool.{true, _&&_};
 ghost use Prim.Native.Nat.{_+_, _/_, _≤_, _<_};

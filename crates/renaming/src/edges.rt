@@ -1,9 +1,9 @@
 // The edges with each absent one filled.
-use crate::record::put_joined;
 use model::Answer;
 use model::EdgeKind;
 use model::RECORD_SIZE;
 use model::Refusal;
+use records::put_joined;
 ghost use mathlib.Core.Path.{_≡_};
 ghost use mathlib.Core.Bool.{false};
 ghost use mathlib.Core.Option.{none};

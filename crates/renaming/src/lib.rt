@@ -2,7 +2,6 @@
 mod change;
 mod edges;
 mod pivots;
-mod record;
 
 pub use edges::translate_edges;
 pub use pivots::translate_pivots;

@@ -8,7 +8,10 @@ use model::PLACE_SIZE;
 use model::RECORD_SIZE;
 use pairs::PrefixSet;
 ghost use mathlib.Core.Path.{_≡_};
+ghost use Prim.Native.Nat.{_*_};
 ghost use lib.ListN.{length};
+ghost use Rattle.model.specs.records.Record.{recordSize};
+ghost use Rattle.model.specs.buckets.Bucket.{entrySize};
 
 fn wide(x: u8) -> u64 {
     x as u64
@@ -40,8 +43,8 @@ fn show_entry(field: u16, k: &[u8]) {
 }
 
 // Three pivots, one after the other.
-fn put_pivots(a: [u8; 66], b: [u8; 66], c: [u8; 66], dest: &mut [u8])
-    requires { ⌜ length (now dest) ≡ 198 ⌝ }
+fn put_pivots(a: [u8; RECORD_SIZE], b: [u8; RECORD_SIZE], c: [u8; RECORD_SIZE], dest: &mut [u8])
+    requires { ⌜ length (now dest) ≡ 3 * recordSize ⌝ }
 {
     records::store(a, dest);
     records::store(b, &mut dest[RECORD_SIZE..]);
@@ -49,7 +52,7 @@ fn put_pivots(a: [u8; 66], b: [u8; 66], c: [u8; 66], dest: &mut [u8])
 }
 
 // The part of three pivots at a place.
-fn show_place(a: [u8; 66], b: [u8; 66], c: [u8; 66], place: usize) {
+fn show_place(a: [u8; RECORD_SIZE], b: [u8; RECORD_SIZE], c: [u8; RECORD_SIZE], place: usize) {
     let mut pivots = [0u8; 3 * RECORD_SIZE];
     put_pivots(a, b, c, &mut pivots);
     print_part(tables::get_key_part(&pivots, place));
@@ -57,7 +60,7 @@ fn show_place(a: [u8; 66], b: [u8; 66], c: [u8; 66], place: usize) {
 
 // Two entries, one after the other, with the number 0.
 fn put_entries(a: &[u8], b: &[u8], dest: &mut [u8])
-    requires { ⌜ length (now dest) ≡ 140 ⌝ }
+    requires { ⌜ length (now dest) ≡ 2 * entrySize ⌝ }
 {
     records::put_record(1, a, dest);
     records::put_record(1, b, &mut dest[ENTRY_SIZE..]);

@@ -3,7 +3,7 @@ use crate::case::Case;
 use crate::inputs::{key_record, Xorshift};
 use crate::lent::{Slices, ROOM};
 use crate::sides::case;
-use joistdenim::{ENTRY_SIZE, MAX_ENTRIES, RECORD_SIZE};
+use joistdenim::{ENTRY_SIZE, MAX_ENTRIES, NUMBER_SIZE};
 
 pub const KEYS: [usize; 3] = [8, 32, 60];
 /// The question is asked with keys of one length: it reads what the call reads.
@@ -26,7 +26,7 @@ fn renamed(random: &mut Xorshift, key: usize, mut kept: usize) -> Slices<3> {
             key[random.below(prefix.len())] ^= 1;
         }
         bucket.extend_from_slice(&key_record(&key));
-        bucket.extend(random.bytes(ENTRY_SIZE - RECORD_SIZE));
+        bucket.extend(random.bytes(NUMBER_SIZE));
     }
     let new_prefix = random.bytes(prefix.len());
     [bucket.into(), prefix.into(), new_prefix.into()]

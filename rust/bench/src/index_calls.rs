@@ -4,7 +4,7 @@ use crate::case::Case;
 use crate::inputs::{key_record, Table, Xorshift};
 use crate::lent::Slices;
 use crate::sides::case;
-use joistdenim::{build_index, ENTRY_SIZE, PLACE_SIZE, RECORD_SIZE};
+use joistdenim::{build_index, ENTRY_SIZE, NUMBER_SIZE, PLACE_SIZE};
 use std::collections::BTreeSet;
 use std::rc::Rc;
 
@@ -35,7 +35,7 @@ fn bucket(random: &mut Xorshift, table: &Table, entries: usize) -> Vec<u8> {
     let mut bucket = vec![];
     for key in keys {
         bucket.extend_from_slice(&key_record(&key));
-        bucket.extend(random.bytes(ENTRY_SIZE - RECORD_SIZE));
+        bucket.extend(random.bytes(NUMBER_SIZE));
     }
     bucket
 }

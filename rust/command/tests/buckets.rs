@@ -1,6 +1,7 @@
 //! `bucket translate`: text and bytes, what is kept and skipped, and what would be too long.
 mod support;
 
+use joistdenim::Number;
 use support::{ran, table, Folder, SHORT_T};
 
 const BUCKET: &str = "413001\t7\n42\t8\n413402\t9\n";
@@ -9,7 +10,7 @@ const BUCKET: &str = "413001\t7\n42\t8\n413402\t9\n";
 const MAX: &str = "it has the mark max, which only a table's last pivot can have";
 
 /// The entries' bytes: keys of a few bytes and their numbers.
-fn entries(of: &[(&[u8], u32)]) -> Vec<u8> {
+fn entries(of: &[(&[u8], Number)]) -> Vec<u8> {
     let mut bytes = vec![];
     for (key, number) in of {
         let at = bytes.len();
@@ -43,7 +44,7 @@ fn entries_with_the_prefix_are_renamed() {
 
 #[test]
 fn entries_may_be_bytes() {
-    let bucket = entries(&[(b"A0", 7), (b"B", u32::MAX), (b"A4", 256)]);
+    let bucket = entries(&[(b"A0", 7), (b"B", Number::MAX), (b"A4", 256)]);
     let renamed = ran("bucket translate --bytes 41 43 -", &bucket);
     assert_eq!(renamed.output, entries(&[(b"C0", 7), (b"C4", 256)]));
     assert_eq!(renamed.errors, "kept 2, skipped 1\n");

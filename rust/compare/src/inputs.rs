@@ -6,7 +6,7 @@ pub const MAX: u16 = 65_535;
 
 pub type Record = [u8; 66];
 
-pub const ENTRY_SIZE: usize = 70;
+pub const ENTRY_SIZE: usize = reference::ENTRY_SIZE;
 pub const MAX_ENTRIES: usize = 512;
 
 pub type Entry = [u8; ENTRY_SIZE];

@@ -25,13 +25,16 @@ use std::str::FromStr;
 #[derive(Clone, Default, PartialEq, Eq, Hash)]
 pub struct Bucket(Vec<u8>);
 
+/// An entry's number, in an entry high byte first.
+pub type Number = u32;
+
 /// A key with its number.
 #[derive(Clone, Copy, Debug, PartialEq, Eq, Hash)]
 pub struct Entry {
     /// The key, which other entries may have too.
     pub key: Key,
     /// The number, which is the caller's and stays with its key.
-    pub number: u32,
+    pub number: Number,
 }
 
 impl Bucket {
@@ -53,7 +56,7 @@ impl Bucket {
             let number = entry[RECORD_SIZE..].try_into();
             Entry {
                 key: key.expect("an entry of a bucket has a key"),
-                number: u32::from_be_bytes(number.expect("a number has four bytes")),
+                number: Number::from_be_bytes(number.expect("a number has its bytes")),
             }
         })
     }
@@ -70,7 +73,7 @@ impl Bucket {
 }
 
 impl Entry {
-    /// The key's record, and the number in four bytes, high byte first.
+    /// The key's record, and the number's bytes, high byte first.
     pub fn to_bytes(&self) -> [u8; ENTRY_SIZE] {
         let mut bytes = [0; ENTRY_SIZE];
         bytes[..RECORD_SIZE].copy_from_slice(self.key.record());

@@ -43,7 +43,7 @@ mod table;
 mod tables;
 mod text;
 
-pub use bucket::{Bucket, Entry};
+pub use bucket::{Bucket, Entry, Number};
 pub use buckets::{translate_bucket, translate_bucket_will_fit};
 pub use cuts::{insert_pivot, join, split_left, split_right, translate_key};
 pub use edge::Edge;
@@ -77,8 +77,10 @@ pub const RECORD_SIZE: usize = 66;
 pub const MIN_PIVOTS: usize = 2;
 /// The most pivots of a table.
 pub const MAX_PIVOTS: usize = 64;
-/// The bytes of an entry: a record with a key, and a number of four bytes.
-pub const ENTRY_SIZE: usize = RECORD_SIZE + 4;
+/// The bytes of an entry's number.
+pub const NUMBER_SIZE: usize = size_of::<Number>();
+/// The bytes of an entry: a record with a key, and a number.
+pub const ENTRY_SIZE: usize = RECORD_SIZE + NUMBER_SIZE;
 /// The most entries of a bucket.
 pub const MAX_ENTRIES: usize = 512;
 /// The bytes of a place in an index.

@@ -2,7 +2,7 @@
 //! with its line and column.
 mod support;
 
-use joistdenim::{Bucket, Refusal, Table};
+use joistdenim::{Bucket, Number, Refusal, Table};
 use support::{all_are_t, faults_of_tables, said, t, Said, LIST_OF_T};
 
 #[test]
@@ -156,8 +156,8 @@ fn buckets_are_read() {
     let written = "# drawer\n\n 4130   007 # seven\r\n - 0";
     assert_eq!(written.parse().as_ref(), Ok(&bucket));
     assert_eq!("".parse::<Bucket>(), Ok(Bucket::default()));
-    let last = format!("41\t{}\n", u32::MAX);
-    assert_eq!(last.parse::<Bucket>().expect("2^32 - 1").to_string(), last);
+    let last = format!("41\t{}\n", Number::MAX);
+    assert_eq!(last.parse::<Bucket>().expect("the last number").to_string(), last);
 }
 
 #[test]

@@ -2,8 +2,8 @@
 mod support;
 
 use joistdenim::{
-    from_hex, Bucket, Edge, Element, Entry, Key, Refusal, TextError, ENTRY_SIZE, MAX_ENTRIES,
-    RECORD_SIZE,
+    from_hex, Bucket, Edge, Element, Entry, Key, Number, Refusal, TextError, ENTRY_SIZE,
+    MAX_ENTRIES, NUMBER_SIZE, RECORD_SIZE,
 };
 use std::collections::HashSet;
 use support::key;
@@ -132,16 +132,18 @@ fn elements_and_edges_are_read_from_records() {
 
 #[test]
 fn a_bucket_is_its_entries() {
-    let entries = [("4130", 7), ("-", u32::MAX), ("4130", 0)];
+    let entries = [("4130", 7), ("-", Number::MAX), ("4130", 0)];
     let entries = entries.map(|(text, number)| Entry {
         key: key(text),
         number,
     });
     let bucket = Bucket::new(&entries).unwrap();
     assert_eq!(bucket.entries().collect::<Vec<_>>(), entries);
-    assert_eq!(bucket.as_bytes()[66..70], [0, 0, 0, 7]);
-    assert_eq!(bucket.as_bytes()[136..140], [0xFF; 4]);
-    assert_eq!(bucket.to_string(), "4130\t7\n-\t4294967295\n4130\t0\n");
+    let (first, others) = bucket.as_bytes().split_at(ENTRY_SIZE);
+    assert_eq!(first[RECORD_SIZE..], Number::to_be_bytes(7));
+    assert_eq!(others[RECORD_SIZE..ENTRY_SIZE], [0xFF; NUMBER_SIZE]);
+    let text = format!("4130\t7\n-\t{}\n4130\t0\n", Number::MAX);
+    assert_eq!(bucket.to_string(), text);
     assert_eq!(bucket.to_string().parse().as_ref(), Ok(&bucket));
     assert_eq!(Bucket::try_from(bucket.as_bytes()).as_ref(), Ok(&bucket));
     let kept = bucket.translate(&key("41"), &Key::EMPTY).unwrap();

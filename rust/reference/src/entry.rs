@@ -2,6 +2,7 @@
 use crate::record::{key, RECORD_SIZE};
 use crate::refusal::Refusal;
 
+/// "a four-byte number"
 const NUMBER_SIZE: usize = 4;
 pub const ENTRY_SIZE: usize = RECORD_SIZE + NUMBER_SIZE;
 

@@ -56,7 +56,7 @@ pub const FUNCTIONS: &[Function] = &[
     of("lcpright", "range_prefix::pivot_lcp", answers::lcpright),
     of("lcp", "range_prefix::pivot_lcp", answers::pivot_lcp),
     of("PivotLcp", "range_prefix::pivot_lcp", answers::pivot_lcp),
-    of("Translate", "pair_records::translate_pair", answers::translate),
+    of("Translate", "pair_translation::translate_pair", answers::translate),
     of("TranslateKey", "translation::translate_key", answers::translate_key),
     of("RevPrefixSet", "pair_records::reverse_pair", answers::reverse_pair),
     of("ApplyPrefixSet", "pair_records::apply_pair", answers::apply_pair),

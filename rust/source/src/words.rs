@@ -1,6 +1,6 @@
 //! Words of the program as bytes that a call is lent, and bytes that it wrote as words: a key is its
 //! digits, or "." where it is empty; "max" is max and "-" no edge, or an absent pair.
-use joistdenim::{from_hex, ENTRY_SIZE, MAX_LEN, PAIR_SIZE, RECORD_SIZE};
+use joistdenim::{from_hex, Number, ENTRY_SIZE, MAX_LEN, NUMBER_SIZE, PAIR_SIZE, RECORD_SIZE};
 
 const EMPTY: &str = ".";
 const MAX: &str = "max";
@@ -41,7 +41,7 @@ pub fn records(words: &[&str]) -> Vec<u8> {
 pub fn entries(words: &[&str]) -> Vec<u8> {
     let mut bytes = vec![];
     for entry in words.chunks(2) {
-        let number: u32 = entry[1].parse().expect("a number behind a key");
+        let number: Number = entry[1].parse().expect("a number behind a key");
         bytes.extend(record(entry[0]));
         bytes.extend(number.to_be_bytes());
     }
@@ -99,8 +99,8 @@ pub fn of_records(bytes: &[u8]) -> String {
 
 pub fn of_entries(bytes: &[u8]) -> String {
     let entry = |entry: &[u8]| {
-        let number: [u8; 4] = entry[RECORD_SIZE..].try_into().expect("four bytes");
-        let number = u32::from_be_bytes(number);
+        let number: [u8; NUMBER_SIZE] = entry[RECORD_SIZE..].try_into().expect("a number");
+        let number = Number::from_be_bytes(number);
         format!("{} {number}", of_record(&entry[..RECORD_SIZE]))
     };
     let words: Vec<String> = bytes.chunks(ENTRY_SIZE).map(entry).collect();
@@ -158,7 +158,7 @@ mod tests {
         let words = [".", "7", "4142", "4294967295"];
         let bytes = entries(&words);
         assert_eq!(bytes.len(), 2 * ENTRY_SIZE);
-        assert_eq!(bytes[ENTRY_SIZE - 4..ENTRY_SIZE], [0, 0, 0, 7]);
+        assert_eq!(bytes[RECORD_SIZE..ENTRY_SIZE], Number::to_be_bytes(7));
         assert_eq!(of_entries(&bytes), words.join(" "));
     }
 

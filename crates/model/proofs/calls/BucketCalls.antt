@@ -1,15 +1,14 @@
 -- Buckets by their bytes: a checked bucket is the bytes of its entries, a renamed one passes the check, and will-it-fit says no where the call answers 8 or 10.
-use mathlib.Core.Path.{_≡_, refl, sym, _∙_}
-use mathlib.Core.Bool.{Bool, true, false, cond, not, _&&_, _||_}
-use mathlib.Core.List.{List, [], _∷_, map}
+use mathlib.Core.Path.{_≡_, refl, sym}
+use mathlib.Core.Bool.{Bool, true, false, cond, not, _||_}
+use mathlib.Core.List.{List, [], _∷_}
 use mathlib.Core.Logic.{_⊎_, inl, inr}
 use mathlib.Core.Option.{none}
-use Prim.Native.Nat.{ℕ, zero, suc, _*_, _/_, _%_, _≤_}
+use Prim.Native.Nat.{ℕ, _*_, _/_, _≤_}
 use native.Mathlib.Omega.{arith}
-use borrow.Author.Tests.{eqb-true, leb-true, le-leb, not-false}
+use borrow.Author.Tests.{not-false}
 use lib.Dec.{eqb, leb}
-use lib.ListN.{length, take, drop, length-map, length-drop}
-use lib.Seq.{take-at, length-take-le}
+use lib.ListN.{length, take}
 use Rattle.model.specs.declared.Refusal.{Refusal}
 use Rattle.model.specs.declared.Refusal.the-variants.{Shape, Malformed, TooLong, NoRoom}
 use Rattle.model.specs.declared.Answer.{Answer}
@@ -17,74 +16,55 @@ use Rattle.model.specs.declared.Answer.the-variants as answers
 use Rattle.model.specs.declared.Decided.{Decided}
 use Rattle.model.specs.declared.Decided.the-variants as decided
 use Rattle.model.specs.keys.Key.{Key, Bytes, maxLen, tooLong, IsPrefix}
-use Rattle.model.specs.records.Record.{recordSize, recordOf, reading, keyReading, encode, pieces}
 use Rattle.model.specs.tables.Tables.{all}
-use Rattle.model.specs.buckets.Bucket.{Entry, Bucket, numberSize, entrySize, maxEntries, entryRecord, entryOf, entryBytes, entries, encodeEntry, encodeBucket, translateEntry, TranslateBucket, sizedEntry}
+use Rattle.model.specs.buckets.Bucket.{Bucket, numberSize, entrySize, maxEntries, entryBytes, entries, encodeBucket, translateEntry, TranslateBucket, sizedEntry}
 use Rattle.model.specs.calls.Refusals.{outcome, first, yesOrNo, over}
 use Rattle.model.specs.calls.BucketCalls.{notEntryCount, entriesRead, bucketCauses, newBucket, shortEntry, bucketLong, bucketFull, renameCauses}
 use Rattle.model.specs.calls.BucketCalls.{translateBucketCauses, translateBucketAnswer, translateBucketLeaves, willFitAnswer}
-use Rattle.model.proofs.Lists.{take-over, all-map}
+use Rattle.model.proofs.Lists.{take-over}
 use Rattle.model.proofs.keys.Key.{both}
-use Rattle.model.proofs.records.Record.{length-record, reading-key}
-use Rattle.model.proofs.records.Records.{length-pieces, joined-read}
-use Rattle.model.proofs.buckets.Entries.{sized, length-entry, length-encodeBucket, entries-encodeBucket, encode-entry, entry-sized}
+use Rattle.model.proofs.buckets.Entries.{length-encodeBucket, entries-encodeBucket}
 use Rattle.model.proofs.buckets.Bucket.{translated-wft}
-use Rattle.model.proofs.calls.Refusals.{passed, accepted, value-is, none-here, none-later, none-before, none-after}
-use Rattle.model.proofs.calls.TableCalls.{either-fails}
-use Rattle.model.proofs.calls.WrittenTables.{pieces-written}
+use Rattle.model.proofs.calls.Refusals.{passed, accepted, value-is, none-here, none-before, none-after}
+use Rattle.model.proofs.calls.BucketsBySize.{count-by, whole-by, most-by, wrong-by, read-by, encode-by, all-sized-by, written-by}
 
 -- ---- a bucket that has none of the causes 1 and 2
 
 module _ (wrong : Bool) (l : List ℕ) (h : first (bucketCauses wrong l) ≡ none) where
-  counted : (eqb (length l % entrySize) 0 && leb (length l / entrySize) maxEntries) ≡ true
-  unfolding bucketCauses notEntryCount
-  counted = not-false _ (none-here (notEntryCount l) Shape _ h)
-
   -- its bytes are whole entries
   pub bucket-whole : length l ≡ (length l / entrySize) * entrySize
-  bucket-whole =
-      let w = both (eqb (length l % entrySize) 0) (leb (length l / entrySize) maxEntries) counted in
-      omega (arith, eqb-true (length l % entrySize) 0 (w .0))
+  unfolding bucketCauses
+  bucket-whole = whole-by numberSize wrong l h
 
   -- at most 512
   pub bucket-most : length l / entrySize ≤ maxEntries
-  bucket-most = leb-true (length l / entrySize) maxEntries (both (eqb (length l % entrySize) 0) (leb (length l / entrySize) maxEntries) counted .1)
-
-  wrong-fails : (wrong ≡ false) × (not (entriesRead (entryBytes l)) ≡ false)
   unfolding bucketCauses
-  wrong-fails = either-fails wrong (not (entriesRead (entryBytes l))) (none-here _ Malformed [] (none-later (notEntryCount l) Shape _ h))
+  bucket-most = most-by numberSize wrong l h
 
   -- no other argument has cause 2
   pub bucket-wrong : wrong ≡ false
-  bucket-wrong = wrong-fails .0
+  unfolding bucketCauses
+  bucket-wrong = wrong-by numberSize wrong l h
 
   -- each entry reads as a key with its number
   pub bucket-read : entriesRead (entryBytes l) ≡ true
-  bucket-read = not-false (entriesRead (entryBytes l)) (wrong-fails .1)
+  unfolding bucketCauses
+  bucket-read = read-by numberSize wrong l h
 
-  -- there are as many entries as 70 goes into the bytes
+  -- there are as many entries as their size goes into the bytes
   pub bucket-count : length (entries l) ≡ length l / entrySize
-  unfolding entries entryBytes
-  bucket-count = length-map (pieces entrySize (length l / entrySize) l) entryOf ∙ length-pieces entrySize (length l / entrySize) l
+  unfolding entries
+  bucket-count = count-by numberSize l
 
   -- the entries' bytes are the bucket
   pub bucket-encode : Bytes l → encodeBucket (entries l) ≡ l
-  unfolding encodeBucket entries entryBytes
-  bucket-encode b = joined-read entrySize (λ (e : List ℕ). keyReading (reading (entryRecord e))) entryOf encodeEntry encode-entry (length l / entrySize) l b bucket-whole (unfold entryBytes entriesRead in bucket-read)
+  unfolding bucketCauses entries
+  bucket-encode = encode-by numberSize wrong l h
 
--- entries read from bytes are sized
-sized-pieces : (n : ℕ) (l : List ℕ) → length l ≡ n * entrySize → all (λ (e : List ℕ). keyReading (reading (entryRecord e))) (pieces entrySize n l) ≡ true
-    → all sizedEntry (map entryOf (pieces entrySize n l)) ≡ true
-unfolding pieces all
-sized-pieces zero l h e = refl
-sized-pieces (suc n) l h e =
-    let w = both (keyReading (reading (entryRecord (take entrySize l)))) (all (λ (x : List ℕ). keyReading (reading (entryRecord x))) (pieces entrySize n (drop entrySize l))) e in
-    rw (entry-sized (take entrySize l) (length-take-le entrySize l (omega arith)) (w .0)) (sized-pieces n (drop entrySize l) (omega (arith, length-drop entrySize l)) (w .1))
-
--- each has a key of at most 64 bytes and a number of four
-pub bucket-sized : (wrong : Bool) (l : List ℕ) → first (bucketCauses wrong l) ≡ none → all sizedEntry (entries l) ≡ true
-unfolding entries entryBytes entriesRead
-bucket-sized wrong l h = sized-pieces (length l / entrySize) l (bucket-whole wrong l h) (bucket-read wrong l h)
+  -- each has a key of at most 64 bytes and a number of four
+  pub bucket-sized : all sizedEntry (entries l) ≡ true
+  unfolding bucketCauses entries
+  bucket-sized = all-sized-by numberSize wrong l h
 
 -- kept entries whose keys are short are sized
 renamed-sized : (b : Bucket) (p q : Key) → all sizedEntry b ≡ true → all shortEntry (TranslateBucket b p q) ≡ true → all sizedEntry (TranslateBucket b p q) ≡ true
@@ -105,32 +85,10 @@ renamed-sized (e ∷ b) p q h j = go (IsPrefix p (e .key)) (both (sizedEntry e) 
 pub kept-sized : (l : List ℕ) (p q : Key) → first (renameCauses l p q) ≡ none → all shortEntry (newBucket l p q) ≡ true → all sizedEntry (newBucket l p q) ≡ true
 kept-sized l p q h s = renamed-sized (entries l) p q (bucket-sized _ l h) s
 
--- ---- what a bucket, written, is
-
--- the record of an entry that is sized reads as a key
-entry-reads : (e : Entry) → sizedEntry e ≡ true → keyReading (reading (entryRecord (encodeEntry e))) ≡ true
-unfolding encodeEntry
-entry-reads e h =
-    let s = sized e h in
-    let r = recordOf (length (e .key)) (e .key) in
-    rw (take-at r (e .number) recordSize (length-record (length (e .key)) (e .key) (s .0))) (unfold encode in (rw (reading-key (e .key) (s .0))))
-
-written-read : (b : Bucket) → all sizedEntry b ≡ true → entriesRead (map encodeEntry b) ≡ true
-unfolding entriesRead
-written-read b h = all-map sizedEntry encodeEntry (λ (e : List ℕ). keyReading (reading (entryRecord e))) entry-reads b h
-
-written-pieces : (b : Bucket) → all sizedEntry b ≡ true → pieces entrySize (length b) (encodeBucket b) ≡ map encodeEntry b
-unfolding encodeBucket
-written-pieces b h = pieces-written entrySize sizedEntry encodeEntry length-entry b h
-
 -- written entries of at most 512 have none of the causes 1 and 2
 pub written-bucket : (b : Bucket) → all sizedEntry b ≡ true → length b ≤ maxEntries → first (bucketCauses false (encodeBucket b)) ≡ none
-unfolding bucketCauses notEntryCount outcome entryBytes
-written-bucket b h m =
-    let s = length-encodeBucket b h in
-    let c : length (encodeBucket b) / entrySize ≡ length b = omega arith in
-    let d : length (encodeBucket b) % entrySize ≡ 0 = omega arith in
-    rw (c, d, le-leb (length b) maxEntries m, written-pieces b h, written-read b h)
+unfolding bucketCauses
+written-bucket = written-by numberSize
 
 -- ---- an accepted renaming
 

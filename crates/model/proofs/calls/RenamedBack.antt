@@ -14,7 +14,7 @@ use Rattle.model.specs.declared.Answer.the-variants as answers
 use Rattle.model.specs.keys.Key.{Key, Bytes, maxLen, tooLong, IsPrefix}
 use Rattle.model.specs.records.Record.{reading, keyReading, keyBytes, pieces, joined}
 use Rattle.model.specs.tables.Tables.{all}
-use Rattle.model.specs.buckets.Bucket.{Entry, numberSize, entrySize, entryRecord, entryOf, entryBytes, entries, encodeEntry, encodeBucket, sizedEntry}
+use Rattle.model.specs.buckets.Bucket.{Entry, numberSize, entrySize, entryRecord, entryOf, entryBytes, entryBytesBy, entries, encodeEntry, encodeBucket, sizedEntry}
 use Rattle.model.specs.buckets.Index.{only}
 use Rattle.model.specs.calls.Refusals.{first}
 use Rattle.model.specs.calls.KeyCalls.{noRoom}
@@ -53,7 +53,7 @@ kept-pieces p (suc n) l b h e =
 
 -- the entries kept of a checked bucket, written, are bytes of the bucket
 pub kept-bytes : (wrong : Bool) (l : List ℕ) (p : Key) → first (bucketCauses wrong l) ≡ none → Bytes l → encodeBucket (kept (entries l) p) ≡ joined (keptBytes p (entryBytes l))
-unfolding entries entryBytes entriesRead
+unfolding entries entryBytesBy entriesRead
 kept-bytes wrong l p h b = kept-pieces p (length l / entrySize) l b (bucket-whole wrong l h) (bucket-read wrong l h)
 
 -- where no other argument has cause 2, the bucket's own causes are all

@@ -14,8 +14,12 @@ use Rattle.model.specs.tables.Tables.{IsStrictlySorted}
 abbrev pub numberSize : ℕ
 numberSize = 4
 
+-- an entry whose number has n bytes
+abbrev pub entrySizeBy : ℕ → ℕ
+entrySizeBy n = recordSize + n
+
 abbrev pub entrySize : ℕ
-entrySize = recordSize + numberSize
+entrySize = entrySizeBy numberSize
 
 abbrev pub maxEntries : ℕ
 maxEntries = 512
@@ -28,9 +32,12 @@ pub record Entry : Type 0 where
 abbrev pub Bucket : Type 0
 Bucket = List Entry
 
--- a key of at most 64 bytes and a number of four
+-- a key of at most 64 bytes, and a number of n or of four
+abbrev pub sizedBy : ℕ → Entry → Bool
+sizedBy n e = leb (length (e .key)) maxLen && eqb (length (e .number)) n
+
 abbrev pub sizedEntry : Entry → Bool
-sizedEntry e = leb (length (e .key)) maxLen && eqb (length (e .number)) numberSize
+sizedEntry e = sizedBy numberSize e
 
 -- ---- as bytes
 
@@ -44,12 +51,18 @@ entryOf b = record { key = keyBytes (entryRecord b); number = drop recordSize b 
 unfoldable pub encodeEntry : Entry → List ℕ
 encodeEntry e = recordOf (length (e .key)) (e .key) ++ e .number
 
--- the bytes of each entry
-unfoldable pub entryBytes : List ℕ → List (List ℕ)
-entryBytes l = pieces entrySize (length l / entrySize) l
+-- the bytes of each entry, where a number has n or four
+unfoldable pub entryBytesBy : ℕ → List ℕ → List (List ℕ)
+entryBytesBy n l = pieces (entrySizeBy n) (length l / entrySizeBy n) l
+
+abbrev pub entryBytes : List ℕ → List (List ℕ)
+entryBytes l = entryBytesBy numberSize l
+
+abbrev pub entriesBy : ℕ → List ℕ → Bucket
+entriesBy n l = map entryOf (entryBytesBy n l)
 
 unfoldable pub entries : List ℕ → Bucket
-entries l = map entryOf (entryBytes l)
+entries l = entriesBy numberSize l
 
 unfoldable pub encodeBucket : Bucket → List ℕ
 encodeBucket b = joined (map encodeEntry b)

@@ -10,20 +10,26 @@ use Rattle.model.specs.declared.Decided.{Decided}
 use Rattle.model.specs.keys.Key.{Key, maxLen, tooLong}
 use Rattle.model.specs.records.Record.{reading, keyReading}
 use Rattle.model.specs.tables.Tables.{all}
-use Rattle.model.specs.buckets.Bucket.{Entry, Bucket, entrySize, maxEntries, entryRecord, entryBytes, entries, encodeBucket, TranslateBucket}
+use Rattle.model.specs.buckets.Bucket.{Entry, Bucket, numberSize, entrySizeBy, entrySize, maxEntries, entryRecord, entryBytesBy, entries, encodeBucket, TranslateBucket}
 use Rattle.model.specs.calls.Refusals.{Cause, _⇒_, answer, decision, leaves}
 
--- "A slice isn't whole records, a count is outside its limits": entries, at most 512
-unfoldable pub notEntryCount : List ℕ → Bool
-notEntryCount l = not (eqb (length l % entrySize) 0 && leb (length l / entrySize) maxEntries)
+-- "A slice isn't whole records, a count is outside its limits": entries, at most 512, whose numbers have n bytes or four
+unfoldable pub notEntryCountBy : ℕ → List ℕ → Bool
+notEntryCountBy n l = not (eqb (length l % entrySizeBy n) 0 && leb (length l / entrySizeBy n) maxEntries)
+
+abbrev pub notEntryCount : List ℕ → Bool
+notEntryCount l = notEntryCountBy numberSize l
 
 -- each entry's record reads as a key: both marks are wrong there
 unfoldable pub entriesRead : List (List ℕ) → Bool
 entriesRead es = all (λ (e : List ℕ). keyReading (reading (entryRecord e))) es
 
 -- causes 1 and 2 of a bucket; whether another argument has cause 2 comes with them
+abbrev pub bucketCausesBy : ℕ → Bool → List ℕ → List Cause
+bucketCausesBy n wrong l = (notEntryCountBy n l ⇒ Shape) ∷ (wrong || not (entriesRead (entryBytesBy n l)) ⇒ Malformed) ∷ []
+
 unfoldable pub bucketCauses : Bool → List ℕ → List Cause
-bucketCauses wrong l = (notEntryCount l ⇒ Shape) ∷ (wrong || not (entriesRead (entryBytes l)) ⇒ Malformed) ∷ []
+bucketCauses wrong l = bucketCausesBy numberSize wrong l
 
 -- ---- translate_bucket: the bucket l, prefix p changed to q, into d
 

@@ -10,8 +10,12 @@ use Rattle.model.specs.records.Record.{lengthField}
 use Rattle.model.specs.translation.PrefixSet.{PrefixSet}
 use Rattle.model.specs.translation.PairState.{PairState, notPair, pairOf, stateOf}
 
+-- the flag and the lengths, and then the arrays
+abbrev pub headSize : ℕ
+headSize = 5
+
 abbrev pub pairSize : ℕ
-pairSize = 5 + maxLen + maxLen
+pairSize = headSize + maxLen + maxLen
 
 -- the state that the bytes hold: the flag, then the lengths, high byte first, then the arrays
 unfoldable pub stateAt : List ℕ → PairState
@@ -20,8 +24,8 @@ stateAt b =
       there = eqb (getD b 0 0) 1;
       oldLength = lengthField (drop 1 b);
       newLength = lengthField (drop 3 b);
-      oldBytes = take maxLen (drop 5 b);
-      newBytes = take maxLen (drop (5 + maxLen) b);
+      oldBytes = take maxLen (drop headSize b);
+      newBytes = take maxLen (drop (headSize + maxLen) b);
     }
 
 -- "1 where the pair is there, 0 where it is absent; any other value is malformed"

@@ -1,4 +1,5 @@
 //! Why a text can't be read.
+use crate::bucket::Number;
 use crate::key::Key;
 use crate::refusal::Refusal;
 use crate::text::TextError;
@@ -114,7 +115,7 @@ impl ListError {
             Fault::Entry(count) => {
                 format!("a line of a bucket has 2 fields, a key and a number, and this has {count}")
             }
-            Fault::Number => format!("a number goes from 0 to {}", u32::MAX),
+            Fault::Number => format!("a number goes from 0 to {}", Number::MAX),
         }
     }
 }

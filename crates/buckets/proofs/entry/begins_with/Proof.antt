@@ -1,5 +1,5 @@
 -- `buckets::begins_with` meets its contract.
-use Rattle.buckets.proofs.Places.{prefix-told}
+use Rattle.buckets.proofs.OneEntry.{prefix-told}
 use borrow.Author.Needs.{needs}
 use Rattle.buckets.proofs.entry.begins_with.Statement.{statement}
 use Rattle.buckets.proofs.entry.begins_with.Tie as tie

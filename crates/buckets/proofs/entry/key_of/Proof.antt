@@ -1,6 +1,6 @@
 -- `buckets::key_of` meets its contract.
 use Rattle.model.proofs.Lists.{part-counts}
-use Rattle.buckets.proofs.Places.{key-there}
+use Rattle.buckets.proofs.OneEntry.{key-there}
 use borrow.Author.Needs.{needs}
 use Rattle.buckets.proofs.entry.key_of.Statement.{statement}
 use Rattle.buckets.proofs.entry.key_of.Tie as tie

@@ -1,6 +1,5 @@
 -- `buckets::measure_entry` meets its contract.
-use Rattle.buckets.proofs.Places.{record-first}
-use Rattle.buckets.proofs.OneEntry.{none-counted, beyond-prefix, changed-fits, long-refused, one-counted}
+use Rattle.buckets.proofs.OneEntry.{record-first, none-counted, beyond-prefix, changed-fits, long-refused, one-counted}
 use borrow.Author.Needs.{needs}
 use Rattle.buckets.proofs.measure.measure_entry.Statement.{statement}
 use Rattle.buckets.proofs.measure.measure_entry.Tie as tie

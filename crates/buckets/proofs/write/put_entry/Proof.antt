@@ -1,6 +1,5 @@
 -- `buckets::put_entry` meets its contract.
-use Rattle.buckets.proofs.Places.{record-first}
-use Rattle.buckets.proofs.OneEntry.{begins, none-long, none-written, one-short, one-long, one-room, one-written}
+use Rattle.buckets.proofs.OneEntry.{record-first, begins, none-long, none-written, one-short, one-long, one-room, one-written}
 use borrow.Author.Needs.{needs}
 use Rattle.buckets.proofs.write.put_entry.Statement.{statement}
 use Rattle.buckets.proofs.write.put_entry.Tie as tie

@@ -1,6 +1,6 @@
 -- `index_translation::kept_at` meets its contract.
 use Rattle.model.proofs.Lists.{part-counts}
-use Rattle.buckets.proofs.Places.{record-there}
+use Rattle.entries.proofs.Places.{record-there}
 use Rattle.index_translation.proofs.Counting.{one-kept, none-kept}
 use borrow.Author.Needs.{needs}
 use Rattle.index_translation.proofs.kept.kept_at.Statement.{statement}

@@ -1,7 +1,6 @@
 -- `pair_records::compose_pairs` meets its contract.
 use Rattle.model.proofs.calls.Refusals.{answering}
 use Rattle.pair_records.proofs.Reading.{wrong-flag}
-use Rattle.pair_records.proofs.Lengths.{compose-fits, old-fits, new-fits}
 use Rattle.pair_records.proofs.ByState.{compose-placed, compose-written}
 use borrow.Author.Needs.{needs}
 use Rattle.pair_records.proofs.calls.compose_pairs.Statement.{statement}
@@ -36,8 +35,8 @@ read-pair-requires-2 c κs = search rules
 compose-requires : tie.Need-compose-requires
 compose-requires c κs = search rules
 
-place-requires : tie.Need-place-requires
-place-requires c κs = (search (old-fits, compose-fits), search (new-fits, compose-fits))
+place-pair-requires : tie.Need-place-pair-requires
+place-pair-requires c κs = search rules
 
 same-length : tie.Need-same-length
 same-length c = search rules
@@ -58,6 +57,6 @@ compose-pairs-spec =
     read-pair-requires
     read-pair-requires-2
     compose-requires
-    place-requires
+    place-pair-requires
     same-length
     returns-5)

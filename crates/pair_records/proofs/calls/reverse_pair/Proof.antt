@@ -1,7 +1,6 @@
 -- `pair_records::reverse_pair` meets its contract.
 use Rattle.model.proofs.calls.Refusals.{answering}
 use Rattle.pair_records.proofs.Reading.{wrong-flag}
-use Rattle.pair_records.proofs.Lengths.{reverse-fits, old-fits, new-fits}
 use Rattle.pair_records.proofs.ByState.{reverse-placed, reverse-written}
 use borrow.Author.Needs.{needs}
 use Rattle.pair_records.proofs.calls.reverse_pair.Statement.{statement}
@@ -24,8 +23,8 @@ read-pair-requires c κs = search rules
 reverse-requires : tie.Need-reverse-requires
 reverse-requires c κs = search rules
 
-place-requires : tie.Need-place-requires
-place-requires c κs = (search (old-fits, reverse-fits), search (new-fits, reverse-fits))
+place-pair-requires : tie.Need-place-pair-requires
+place-pair-requires c κs = search rules
 
 same-length : tie.Need-same-length
 same-length c = search rules
@@ -42,6 +41,6 @@ reverse-pair-spec =
     returns-2
     read-pair-requires
     reverse-requires
-    place-requires
+    place-pair-requires
     same-length
     returns-3)

@@ -1,11 +1,17 @@
 -- `pair_records::read_pair` meets its contract.
 use Rattle.model.proofs.Lists.{part-counts}
-use Rattle.pair_records.proofs.Reading.{read-is}
+use Rattle.pair_records.proofs.Reading.{read-is, read-absent}
 use borrow.Author.Needs.{needs}
 use Rattle.pair_records.proofs.record.read_pair.Statement.{statement}
 use Rattle.pair_records.proofs.record.read_pair.Tie as tie
 
-ruleset rules = (needs, part-counts, read-is)
+ruleset rules = (needs, part-counts, read-is, read-absent)
+
+absent-requires : tie.Need-absent-requires
+absent-requires c κs = search rules
+
+returns : tie.Need-returns
+returns c = search rules
 
 shared-slice-read-there : tie.Need-shared-slice-read-there
 shared-slice-read-there c = search rules
@@ -64,13 +70,15 @@ part-padded-end-2 c = search rules
 padded-requires-2 : tie.Need-padded-requires-2
 padded-requires-2 c κs = search rules
 
-returns : tie.Need-returns
-returns c = search rules
+returns-2 : tie.Need-returns-2
+returns-2 c = search rules
 
 pub read-pair-spec : {M : Type 1} → statement M
 read-pair-spec =
     tie.close
     (tie.spec
+    absent-requires
+    returns
     shared-slice-read-there
     sub-length-field
     part-length-field-start
@@ -90,4 +98,4 @@ read-pair-spec =
     part-padded-start-2
     part-padded-end-2
     padded-requires-2
-    returns)
+    returns-2)

@@ -7,7 +7,7 @@ use Rattle.pivot_pair.proofs.bounds.put_bounds.Tie as tie
 ruleset rules = (needs, left-inside, left-room, bound-short, rest-room, both-placed)
 
 put-changed-requires : tie.Need-put-changed-requires
-put-changed-requires c κs = (search rules, search rules)
+put-changed-requires c κs = (search rules, search rules, search rules)
 
 sub-put-right : tie.Need-sub-put-right
 sub-put-right c = search rules

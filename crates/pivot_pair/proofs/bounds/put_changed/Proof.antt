@@ -1,70 +1,36 @@
 -- `pivot_pair::put_changed` meets its contract.
-use Rattle.pivot_pair.proofs.Changed.{changed-stored}
+use Rattle.pivot_pair.proofs.Changed.{changed-written}
 use borrow.Author.Needs.{needs}
 use Rattle.pivot_pair.proofs.bounds.put_changed.Statement.{statement}
 use Rattle.pivot_pair.proofs.bounds.put_changed.Tie as tie
 
-sub-n : tie.Need-sub-n
-sub-n c = search needs
+ruleset rules = (needs, changed-written)
 
-add-n : tie.Need-add-n
-add-n c = search needs
+sub-put-joined : tie.Need-sub-put-joined
+sub-put-joined c = search rules
 
-add-at : tie.Need-add-at
-add-at c = search needs
+part-put-joined-start : tie.Need-part-put-joined-start
+part-put-joined-start c = search rules
 
-cast-record-of : tie.Need-cast-record-of
-cast-record-of c = search needs
+part-put-joined-end : tie.Need-part-put-joined-end
+part-put-joined-end c = search rules
 
-record-of-requires : tie.Need-record-of-requires
-record-of-requires c κs = search needs
-
-sub-copy : tie.Need-sub-copy
-sub-copy c = search needs
-
-part-copy-start : tie.Need-part-copy-start
-part-copy-start c = search needs
-
-part-copy-end : tie.Need-part-copy-end
-part-copy-end c = search needs
-
-sub-copy-2 : tie.Need-sub-copy-2
-sub-copy-2 c = search needs
-
-part-made-start : tie.Need-part-made-start
-part-made-start c = search needs
-
-part-made-end : tie.Need-part-made-end
-part-made-end c = search needs
-
-copy-requires : tie.Need-copy-requires
-copy-requires c κs = search needs
-
-store-requires : tie.Need-store-requires
-store-requires c κs = search needs
+put-joined-requires : tie.Need-put-joined-requires
+put-joined-requires c κs = search rules
 
 same-length : tie.Need-same-length
-same-length c = search needs
+same-length c = search rules
 
 returns : tie.Need-returns
-returns c = search changed-stored
+returns c = search rules
 
 pub put-changed-spec : {M : Type 1} → statement M
 put-changed-spec =
     tie.close
     (tie.spec
-    sub-n
-    add-n
-    add-at
-    cast-record-of
-    record-of-requires
-    sub-copy
-    part-copy-start
-    part-copy-end
-    sub-copy-2
-    part-made-start
-    part-made-end
-    copy-requires
-    store-requires
+    sub-put-joined
+    part-put-joined-start
+    part-put-joined-end
+    put-joined-requires
     same-length
     returns)

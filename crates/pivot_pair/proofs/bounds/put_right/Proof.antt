@@ -10,7 +10,7 @@ key-bytes-requires : tie.Need-key-bytes-requires
 key-bytes-requires c κs = search rules
 
 put-changed-requires : tie.Need-put-changed-requires
-put-changed-requires c κs = (search rules, search rules)
+put-changed-requires c κs = (search rules, search rules, search rules)
 
 put-upper-requires : tie.Need-put-upper-requires
 put-upper-requires c κs = search rules

@@ -1,10 +1,11 @@
 -- `renaming::put_pivot` meets its contract.
+use Rattle.records.proofs.JoinedKeys.{recorded-whole}
 use Rattle.renaming.proofs.NewPivots.{key-begun, key-room, key-made}
 use borrow.Author.Needs.{needs}
 use Rattle.renaming.proofs.change.put_pivot.Statement.{statement}
 use Rattle.renaming.proofs.change.put_pivot.Tie as tie
 
-ruleset rules = (needs, key-begun, key-room, key-made)
+ruleset rules = (needs, recorded-whole, key-begun, key-room, key-made)
 
 record-at-requires : tie.Need-record-at-requires
 record-at-requires c κs = search rules

@@ -1,11 +1,12 @@
 -- `renaming::put_filled` meets its contract.
 use Rattle.model.proofs.Lists.{part-counts}
+use Rattle.records.proofs.JoinedKeys.{recorded-whole}
 use Rattle.renaming.proofs.Filled.{prefix-room, prefix-made, kept-room, kept-made}
 use borrow.Author.Needs.{needs}
 use Rattle.renaming.proofs.edges.put_filled.Statement.{statement}
 use Rattle.renaming.proofs.edges.put_filled.Tie as tie
 
-ruleset rules = (needs, part-counts, prefix-room, prefix-made, kept-room, kept-made)
+ruleset rules = (needs, recorded-whole, part-counts, prefix-room, prefix-made, kept-room, kept-made)
 
 record-at-requires : tie.Need-record-at-requires
 record-at-requires c κs = search rules
