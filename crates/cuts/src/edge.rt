@@ -23,12 +23,7 @@ fn cut_edge(edge: &[u8], old: &[u8], new: &[u8], made: &mut [u8]) -> Answer
         return Answer::Value(1);
     }
     let mut room = [0u8; 64];
-    let changed = prefix_changes::change_prefix_small(
-        new,
-        old,
-        records::key_bytes(edge),
-        &mut room,
-    );
+    let changed = keys::change_prefix_small(new, old, records::key_bytes(edge), &mut room);
     let Answer::Value(n) = changed else {
         return changed;
     };

@@ -18,7 +18,7 @@ pub extern "C" fn jd_pivot_key(rec: &[u8], value: &mut u64) -> u32
     ensures number { λ r. ⌜ r ≡ answerNumber (pivotKeyAnswer (now (rec .entry))) ⌝ }
     ensures value { λ r. ⌜ now (value .exit) ≡ told (pivotKeyAnswer (now (rec .entry))) (now (value .entry)) ⌝ }
 {
-    tell(key_parts::pivot_key(rec), value)
+    tell(keys::pivot_key(rec), value)
 }
 
 #[no_mangle]
@@ -26,7 +26,7 @@ pub extern "C" fn jd_entry_key(entry: &[u8], value: &mut u64) -> u32
     ensures number { λ r. ⌜ r ≡ answerNumber (entryKeyAnswer (now (entry .entry))) ⌝ }
     ensures value { λ r. ⌜ now (value .exit) ≡ told (entryKeyAnswer (now (entry .entry))) (now (value .entry)) ⌝ }
 {
-    tell(key_parts::entry_key(entry), value)
+    tell(keys::entry_key(entry), value)
 }
 
 #[no_mangle]
@@ -41,7 +41,7 @@ pub extern "C" fn jd_change_prefix(
     ensures value { λ r. ⌜ now (value .exit) ≡ told (changePrefixAnswer (now (key .entry)) (now (old .entry)) (now (new .entry)) (now (dest .entry))) (now (value .entry)) ⌝ }
     ensures written { λ r. ⌜ now (dest .exit) ≡ changePrefixLeaves (now (key .entry)) (now (old .entry)) (now (new .entry)) (now (dest .entry)) ⌝ }
 {
-    tell(prefix_changes::change_prefix(key, old, new, dest), value)
+    tell(keys::change_prefix(key, old, new, dest), value)
 }
 
 #[no_mangle]

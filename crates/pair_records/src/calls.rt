@@ -38,7 +38,7 @@ pub fn apply_pair(pair: &[u8], key: &[u8], dest: &mut [u8]) -> Answer
     }
     if pair[0] == 0 {
         // an absent pair, ε changed to ε: the key itself
-        return prefix_changes::change_prefix(key, &key[..0], &key[..0], dest);
+        return keys::change_prefix(key, &key[..0], &key[..0], dest);
     }
     let n = wide(records::length_field(&pair[1..]));
     let m = wide(records::length_field(&pair[3..]));
@@ -50,7 +50,7 @@ pub fn apply_pair(pair: &[u8], key: &[u8], dest: &mut [u8]) -> Answer
     }
     let p = 5 + n;
     let q = 69 + m;
-    prefix_changes::change_prefix(key, &pair[5..p], &pair[69..q], dest)
+    keys::change_prefix(key, &pair[5..p], &pair[69..q], dest)
 }
 
 // ComposePrefixSet: the pair that undoes b and then does a, at the head of dest. Answers 1 where it is there, 0 where it

@@ -59,13 +59,13 @@ pub(crate) fn composed(ap: &[u8], aq: &[u8], bp: &[u8], bq: &[u8]) -> Paired
 {
     let mut room = [0u8; 64];
     if ap.len() <= bp.len() {
-        let changed = prefix_changes::change_prefix_small(bp, ap, aq, &mut room);
+        let changed = keys::change_prefix_small(bp, ap, aq, &mut room);
         let Answer::Value(n) = changed else {
             return beside(changed);
         };
         return made(bq, &room[..n]);
     }
-    let changed = prefix_changes::change_prefix_small(ap, bp, bq, &mut room);
+    let changed = keys::change_prefix_small(ap, bp, bq, &mut room);
     let Answer::Value(n) = changed else {
         return beside(changed);
     };

@@ -109,13 +109,13 @@ impl PrefixSet {
         }
         if !self.there {
             // ε changed to ε: the key itself
-            return prefix_changes::change_prefix_small(key, &key[..0], &key[..0], dest);
+            return keys::change_prefix_small(key, &key[..0], &key[..0], dest);
         }
         let old = self.old;
         let new = self.new;
         let n = self.oldlen;
         let m = self.newlen;
-        prefix_changes::change_prefix_small(key, &old[..n], &new[..m], dest)
+        keys::change_prefix_small(key, &old[..n], &new[..m], dest)
     }
 
     // ComposePrefixSet: the pair that undoes b and then does this one. Refuses 2, 7 and 8.

@@ -29,14 +29,14 @@ fn print_part(part: &[u8]) {
 // The part of a pivot record.
 fn show_pivot(field: u16, k: &[u8]) {
     let rec = records::record_of(field, k);
-    print_part(key_parts::pivot_key_part(&rec));
+    print_part(keys::pivot_key_part(&rec));
 }
 
 // The part of an entry with the same record, and the number 0.
 fn show_entry(field: u16, k: &[u8]) {
     let mut entry = [0u8; ENTRY_SIZE];
     records::put_record(field, k, &mut entry);
-    print_part(key_parts::entry_key_part(&entry));
+    print_part(keys::entry_key_part(&entry));
 }
 
 // Three pivots, one after the other.

@@ -23,11 +23,11 @@ fn translate_in(pivots: &[u8], edges: &[u8], k: &[u8], c: usize, dest: &mut [u8]
     let edge = records::record_at(edges, c);
     if records::is_no_edge(edge) {
         // ε changed to ε: the key itself
-        return prefix_changes::change_prefix_small(k, &k[..0], &k[..0], dest);
+        return keys::change_prefix_small(k, &k[..0], &k[..0], dest);
     }
     let from = records::key_bytes(records::record_at(pivots, c));
     let n = range_prefix::range_prefix_len(from, records::record_at(pivots, c + 1));
-    prefix_changes::change_prefix_small(k, &from[..n], records::key_bytes(edge), dest)
+    keys::change_prefix_small(k, &from[..n], records::key_bytes(edge), dest)
 }
 
 // TranslateKey: the key translated, at the head of dest. Answers its length. Refuses 1, 2, 3, 4, 5, 8 and 10.
