@@ -1,3 +1,2 @@
 pub mod SlotLines
-pub mod Inputs
 pub mod Listed

@@ -1,9 +1,9 @@
 // The list of the table that an input holds.
-use crate::input::check_list;
-use crate::input::list_edges;
-use crate::input::list_pivots;
 use crate::lines::table_text;
 use digits::number_field;
+use list_inputs::check_list;
+use list_inputs::list_edges;
+use list_inputs::list_pivots;
 use model::Answer;
 use model::Refusal;
 ghost use mathlib.Core.Path.{_≡_};

@@ -1,4 +1,5 @@
-// What an input holds: the pivot count in two bytes, high byte first, then pivots, then edges.
+// What an input holds: the pivot count in two bytes, high byte first, then pivots, then edges. No public function has a
+// `requires`.
 use model::Answer;
 use model::RECORD_SIZE;
 ghost use mathlib.Core.Path.{_≡_};
@@ -22,7 +23,7 @@ fn list_count(input: &[u8]) -> usize
 }
 
 // The pivots, as far as there are bytes.
-pub(crate) fn list_pivots(input: &[u8]) -> &[u8]
+pub fn list_pivots(input: &[u8]) -> &[u8]
     ensures { λ r. ⌜ now r ≡ listPivots (now (input .entry)) ⌝ }
 {
     if input.len() < 2 {
@@ -34,7 +35,7 @@ pub(crate) fn list_pivots(input: &[u8]) -> &[u8]
 }
 
 // What follows the pivots.
-pub(crate) fn list_edges(input: &[u8]) -> &[u8]
+pub fn list_edges(input: &[u8]) -> &[u8]
     ensures { λ r. ⌜ now r ≡ listEdges (now (input .entry)) ⌝ }
 {
     let n = 2 + list_count(input) * RECORD_SIZE;
@@ -54,7 +55,7 @@ fn not_list_size(input: &[u8]) -> bool
 }
 
 // Causes 1 to 4 of the table; else the count of its pivots.
-pub(crate) fn check_list(input: &[u8]) -> Answer
+pub fn check_list(input: &[u8]) -> Answer
     ensures { λ r. ⌜ r ≡ answer (listCauses (now (input .entry))) (length (listPivots (now (input .entry))) / recordSize) ⌝ }
 {
     let pivots = list_pivots(input);

@@ -1,8 +1,8 @@
--- `listing::input::list_pivots` meets its contract.
-use Rattle.listing.proofs.Inputs.{pivots-none, pivots-part}
+-- `list_inputs::list_pivots` meets its contract.
+use Rattle.list_inputs.proofs.Inputs.{pivots-none, pivots-part}
 use borrow.Author.Needs.{needs}
-use Rattle.listing.proofs.input.list_pivots.Statement.{statement}
-use Rattle.listing.proofs.input.list_pivots.Tie as tie
+use Rattle.list_inputs.proofs.list_pivots.Statement.{statement}
+use Rattle.list_inputs.proofs.list_pivots.Tie as tie
 
 ruleset rules = (needs, pivots-none, pivots-part)
 

@@ -1,8 +1,8 @@
--- `listing::input::list_edges` meets its contract.
-use Rattle.listing.proofs.Inputs.{edges-part}
+-- `list_inputs::list_edges` meets its contract.
+use Rattle.list_inputs.proofs.Inputs.{edges-part}
 use borrow.Author.Needs.{needs}
-use Rattle.listing.proofs.input.list_edges.Statement.{statement}
-use Rattle.listing.proofs.input.list_edges.Tie as tie
+use Rattle.list_inputs.proofs.list_edges.Statement.{statement}
+use Rattle.list_inputs.proofs.list_edges.Tie as tie
 
 ruleset rules = (needs, edges-part)
 

@@ -1,8 +1,8 @@
--- `listing::input::check_list` meets its contract.
-use Rattle.listing.proofs.Inputs.{list-checked}
+-- `list_inputs::check_list` meets its contract.
+use Rattle.list_inputs.proofs.Inputs.{list-checked}
 use borrow.Author.Needs.{needs}
-use Rattle.listing.proofs.input.check_list.Statement.{statement}
-use Rattle.listing.proofs.input.check_list.Tie as tie
+use Rattle.list_inputs.proofs.check_list.Statement.{statement}
+use Rattle.list_inputs.proofs.check_list.Tie as tie
 
 ruleset rules = (needs, list-checked)
 

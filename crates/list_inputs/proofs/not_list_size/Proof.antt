@@ -1,8 +1,8 @@
--- `listing::input::not_list_size` meets its contract.
-use Rattle.listing.proofs.Inputs.{size-none, size-some}
+-- `list_inputs::not_list_size` meets its contract.
+use Rattle.list_inputs.proofs.Inputs.{size-none, size-some}
 use borrow.Author.Needs.{needs}
-use Rattle.listing.proofs.input.not_list_size.Statement.{statement}
-use Rattle.listing.proofs.input.not_list_size.Tie as tie
+use Rattle.list_inputs.proofs.not_list_size.Statement.{statement}
+use Rattle.list_inputs.proofs.not_list_size.Tie as tie
 
 ruleset rules = (needs, size-none, size-some)
 
