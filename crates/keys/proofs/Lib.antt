@@ -1,4 +1,2 @@
-pub mod KeyOf
 pub mod Elements
 pub mod Padded
-pub mod Changing

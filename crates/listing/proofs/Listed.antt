@@ -24,8 +24,9 @@ use Rattle.model.specs.list.ShelfList.{listPivots, listEdges, notListSize, list
 use Rattle.model.proofs.calls.Refusals.{here, later, done, value-done, passed, refused-by}
 use Rattle.model.proofs.Lists.{into-over}
 use Rattle.model.proofs.calls.TableCalls.{length-elements, element-at, edge-at, table-count, table-most, length-edges}
-use Rattle.listing.specs.Text.{field, lineAt, linesTo, countOf, foundText}
-use Rattle.listing.proofs.Texts.{both-length, both-written}
+use Rattle.digits.specs.Field.{field}
+use Rattle.listing.specs.Text.{lineAt, linesTo, countOf, foundText}
+use Rattle.list_fields.proofs.Texts.{both-length, both-written}
 
 -- ---- a table that is refused
 

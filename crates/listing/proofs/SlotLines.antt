@@ -1,37 +1,21 @@
 -- The lines of a table's slots: each by its fields, and all of them in turn.
 use mathlib.Core.Path.{_≡_, refl, sym, ap, _∙_}
 use mathlib.Core.List.{List, [], _∷_, _++_, append-assoc}
-use mathlib.Core.Logic.{⊎-elim}
-use Prim.Native.Nat.{ℕ, _+_, _*_, _-_, _/_, _≤_, _<_, min}
+use Prim.Native.Nat.{ℕ, _+_, _-_, _≤_, min}
 use native.Mathlib.Numerals.{add-one}
 use native.Mathlib.Omega.{arith}
 use borrow.Rule.Slice.PartMut.{putMid}
-use lib.ListN.{length, take, drop, length-take, List·getD-eq-default}
-use Rattle.model.specs.records.Record.{recordSize, pieces, records, element, edgeOf}
+use lib.ListN.{length, take, drop}
+use Rattle.model.specs.records.Record.{element, edgeOf}
 use Rattle.model.specs.inner.Places.{recordAt}
 use Rattle.model.specs.ranges.RangePrefix.{PivotLcp}
 use Rattle.model.specs.calls.Refusals.{over}
 use Rattle.model.specs.inner.Written.{into}
 use Rattle.model.specs.list.ShelfList.{tab, newline, decimal, keyText, elementText, edgeText, slotLine}
-use Rattle.model.proofs.Lists.{le-or-lt, into-over}
-use Rattle.model.proofs.records.Records.{length-pieces, piece-at}
-use Rattle.listing.specs.Text.{field, lineHead, lineRest, lineAt, linesTo}
-use Rattle.listing.proofs.Texts.{both-length, both-written}
-
--- a record has at most 66 bytes
-pub record-short : (p l : List ℕ) (i : ℕ) → l ≡ recordAt p i → length l ≤ 66
-unfolding records
-record-short p l i e = ⊎-elim outside inside (le-or-lt (length p / recordSize) i)
-  where
-    outside : length p / recordSize ≤ i → length l ≤ 66
-    outside h =
-        let none : recordAt p i ≡ [] =
-        List·getD-eq-default (pieces recordSize (length p / recordSize) p) [] (omega (arith, length-pieces recordSize (length p / recordSize) p))
-        in
-        rw (e, none) (omega arith)
-
-    inside : i < length p / recordSize → length l ≤ 66
-    inside h = rw (e, piece-at recordSize (length p / recordSize) i p h) (omega (arith, length-take recordSize (drop (i * recordSize) p)))
+use Rattle.model.proofs.Lists.{into-over}
+use Rattle.digits.specs.Field.{field}
+use Rattle.listing.specs.Text.{lineHead, lineRest, lineAt, linesTo}
+use Rattle.list_fields.proofs.Texts.{both-length, both-written}
 
 -- ---- one line
 

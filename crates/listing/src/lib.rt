@@ -1,6 +1,4 @@
 // The list of a table, as text. No public function has a `requires`.
-mod fields;
-mod input;
 mod lines;
 mod table;
 

@@ -1,20 +1,20 @@
 // The lines of a table. Each text is written at the head of dest as far as there is room, and its length is answered.
-use crate::fields::edge_field;
-use crate::fields::element_field;
-use crate::fields::number_field;
-use crate::fields::shared_field;
+use digits::number_field;
+use list_fields::edge_field;
+use list_fields::element_field;
+use list_fields::shared_field;
 ghost use mathlib.Core.Path.{_≡_};
 ghost use mathlib.Core.List.{_++_};
 ghost use Prim.Native.Nat.{_+_, _*_, _-_, _≤_, _<_};
 ghost use lib.ListN.{length};
 ghost use Rattle.model.specs.inner.Written.{into};
 ghost use Rattle.model.specs.list.ShelfList.{header};
-ghost use Rattle.listing.specs.Text.{pivotField, lineHead, lineRest, lineAt, linesTo};
+ghost use Rattle.list_fields.specs.Fields.{pivotField, mostField};
+ghost use Rattle.listing.specs.Text.{lineHead, lineRest, lineAt, linesTo, mostLine};
 
 // The two pivots of a slot.
 fn line_pivots(left: &[u8], right: &[u8], dest: &mut [u8]) -> usize
-    requires { ⌜ (length (now left) ≤ 66) × (length (now right) ≤ 66) ⌝ }
-    ensures length { λ r. ⌜ (r ≡ length (pivotField (now (left .entry)) ++ pivotField (now (right .entry)))) × (r ≤ 258) ⌝ }
+    ensures length { λ r. ⌜ (r ≡ length (pivotField (now (left .entry)) ++ pivotField (now (right .entry)))) × (r ≤ 2 * mostField) ⌝ }
     ensures written { λ r. ⌜ now (dest .exit) ≡ into (pivotField (now (left .entry)) ++ pivotField (now (right .entry))) (now (dest .entry)) ⌝ }
 {
     let n = element_field(left, dest);
@@ -24,8 +24,7 @@ fn line_pivots(left: &[u8], right: &[u8], dest: &mut [u8]) -> usize
 
 // The prefix of a slot's range, and its edge.
 fn line_rest(left: &[u8], right: &[u8], edge: &[u8], dest: &mut [u8]) -> usize
-    requires { ⌜ (length (now left) ≤ 66) × (length (now edge) ≤ 66) ⌝ }
-    ensures length { λ r. ⌜ (r ≡ length (lineRest (now (left .entry)) (now (right .entry)) (now (edge .entry)))) × (r ≤ 258) ⌝ }
+    ensures length { λ r. ⌜ (r ≡ length (lineRest (now (left .entry)) (now (right .entry)) (now (edge .entry)))) × (r ≤ 2 * mostField) ⌝ }
     ensures written { λ r. ⌜ now (dest .exit) ≡ into (lineRest (now (left .entry)) (now (right .entry)) (now (edge .entry))) (now (dest .entry)) ⌝ }
 {
     let n = shared_field(left, right, dest);
@@ -35,11 +34,11 @@ fn line_rest(left: &[u8], right: &[u8], edge: &[u8], dest: &mut [u8]) -> usize
 
 // The number of a slot, and its pivots.
 fn line_head(i: usize, left: &[u8], right: &[u8], dest: &mut [u8]) -> usize
-    requires { ⌜ (i < 100) × (length (now left) ≤ 66) × (length (now right) ≤ 66) ⌝ }
-    ensures length { λ r. ⌜ (r ≡ length (lineHead i (now (left .entry)) (now (right .entry)))) × (r ≤ 261) ⌝ }
+    requires { ⌜ i < 100 ⌝ }
+    ensures length { λ r. ⌜ (r ≡ length (lineHead i (now (left .entry)) (now (right .entry)))) × (r ≤ 3 + 2 * mostField) ⌝ }
     ensures written { λ r. ⌜ now (dest .exit) ≡ into (lineHead i (now (left .entry)) (now (right .entry))) (now (dest .entry)) ⌝ }
 {
-    let n = number_field(i, b'\t', dest);
+    let n = number_field(i as u8, b'\t', dest);
     let at = scan::least(n, dest.len());
     n + line_pivots(left, right, &mut dest[at..])
 }
@@ -47,7 +46,7 @@ fn line_head(i: usize, left: &[u8], right: &[u8], dest: &mut [u8]) -> usize
 // The line of slot i.
 fn slot_line(pivots: &[u8], edges: &[u8], i: usize, dest: &mut [u8]) -> usize
     requires { ⌜ i < 100 ⌝ }
-    ensures length { λ r. ⌜ (r ≡ length (lineAt (now (pivots .entry)) (now (edges .entry)) i)) × (r ≤ 519) ⌝ }
+    ensures length { λ r. ⌜ (r ≡ length (lineAt (now (pivots .entry)) (now (edges .entry)) i)) × (r ≤ mostLine) ⌝ }
     ensures written { λ r. ⌜ now (dest .exit) ≡ into (lineAt (now (pivots .entry)) (now (edges .entry)) i) (now (dest .entry)) ⌝ }
 {
     let left = records::record_at(pivots, i);
@@ -60,7 +59,7 @@ fn slot_line(pivots: &[u8], edges: &[u8], i: usize, dest: &mut [u8]) -> usize
 // A line for each slot of as many pivots.
 fn slot_lines(pivots: &[u8], edges: &[u8], count: usize, dest: &mut [u8]) -> usize
     requires { ⌜ count ≤ 64 ⌝ }
-    ensures length { λ r. ⌜ (r ≡ length (linesTo (now (pivots .entry)) (now (edges .entry)) (count - 1))) × (r ≤ 63 * 519) ⌝ }
+    ensures length { λ r. ⌜ (r ≡ length (linesTo (now (pivots .entry)) (now (edges .entry)) (count - 1))) × (r ≤ 63 * mostLine) ⌝ }
     ensures written { λ r. ⌜ now (dest .exit) ≡ into (linesTo (now (pivots .entry)) (now (edges .entry)) (count - 1)) (now (dest .entry)) ⌝ }
 {
     let mut n = 0;

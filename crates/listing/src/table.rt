@@ -1,9 +1,9 @@
 // The list of the table that an input holds.
-use crate::fields::number_field;
-use crate::input::check_list;
-use crate::input::list_edges;
-use crate::input::list_pivots;
 use crate::lines::table_text;
+use digits::number_field;
+use list_inputs::check_list;
+use list_inputs::list_edges;
+use list_inputs::list_pivots;
 use model::Answer;
 use model::Refusal;
 ghost use mathlib.Core.Path.{_≡_};
@@ -21,7 +21,7 @@ fn refused_text(r: Refusal, dest: &mut [u8]) -> usize
     records::copy(b"refused\t", dest);
     let n = 8;
     let at = scan::least(n, dest.len());
-    let number = refusals::refusal_number(r) as usize;
+    let number = refusals::refusal_number(r) as u8;
     n + number_field(number, b'\n', &mut dest[at..])
 }
 

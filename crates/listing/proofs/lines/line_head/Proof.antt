@@ -1,10 +1,13 @@
 -- `listing::lines::line_head` meets its contract.
-use Rattle.listing.proofs.Texts.{both-length, both-written}
+use Rattle.list_fields.proofs.Texts.{both-length, both-written}
 use borrow.Author.Needs.{needs}
 use Rattle.listing.proofs.lines.line_head.Statement.{statement}
 use Rattle.listing.proofs.lines.line_head.Tie as tie
 
 ruleset rules = (needs, both-length, both-written)
+
+cast-number-field : tie.Need-cast-number-field
+cast-number-field c = search rules
 
 number-field-requires : tie.Need-number-field-requires
 number-field-requires c κs = search rules
@@ -37,6 +40,7 @@ pub line-head-spec : {M : Type 1} → statement M
 line-head-spec =
     tie.close
     (tie.spec
+    cast-number-field
     number-field-requires
     least-requires
     sub-line-pivots

@@ -1,10 +1,10 @@
 -- `listing::lines::slot_line` meets its contract.
-use Rattle.listing.proofs.SlotLines.{record-short, line-length, line-written}
+use Rattle.listing.proofs.SlotLines.{line-length, line-written}
 use borrow.Author.Needs.{needs}
 use Rattle.listing.proofs.lines.slot_line.Statement.{statement}
 use Rattle.listing.proofs.lines.slot_line.Tie as tie
 
-ruleset rules = (needs, record-short, line-length, line-written)
+ruleset rules = (needs, line-length, line-written)
 
 record-at-requires : tie.Need-record-at-requires
 record-at-requires c κs = search rules

@@ -3,7 +3,7 @@ use mathlib.Core.Path.{_≡_}
 use Prim.Native.Nat.{_*_, _-_, _≤_}
 use lib.ListN.{length}
 use Rattle.model.specs.inner.Written.{into}
-use Rattle.listing.specs.Text.{linesTo}
+use Rattle.listing.specs.Text.{mostLine, linesTo}
 use borrow.Author.Needs.{needs}
 use Rattle.listing.proofs.SlotLines.{lines-none, lines-none-written, lines-length, lines-written, lines-end-length, lines-end-written}
 use Rattle.listing.proofs.lines.slot_lines.Statement.{statement}
@@ -13,7 +13,7 @@ ruleset rules = (needs, lines-none, lines-none-written, lines-length, lines-writ
 
 abbrev Inv-loop : tie.InvT-loop
 Inv-loop pivots edges count dest₀ n₀ i₀ dest n i =
-    (i ≤ count - 1) × (n ≤ i * 519) × (n ≡ length (linesTo pivots edges i)) × (length dest ≡ length dest₀) × (dest ≡ into (linesTo pivots edges i) dest₀)
+    (i ≤ count - 1) × (n ≤ i * mostLine) × (n ≡ length (linesTo pivots edges i)) × (length dest ≡ length dest₀) × (dest ≡ into (linesTo pivots edges i) dest₀)
 
 abbrev μ-loop : tie.MeasureT-loop
 μ-loop pivots edges count dest₀ n₀ i₀ dest n i = count - i

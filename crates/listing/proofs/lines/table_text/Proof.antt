@@ -1,6 +1,6 @@
 -- `listing::lines::table_text` meets its contract.
 use Rattle.model.specs.list.ShelfList.{header}
-use Rattle.listing.proofs.Texts.{both-length, both-written}
+use Rattle.list_fields.proofs.Texts.{both-length, both-written}
 use borrow.Author.Needs.{needs}
 use Rattle.listing.proofs.lines.table_text.Statement.{statement}
 use Rattle.listing.proofs.lines.table_text.Tie as tie
