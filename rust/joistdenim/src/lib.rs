@@ -27,6 +27,7 @@ mod edge;
 mod element;
 mod faults;
 mod index;
+mod joining;
 mod key;
 mod keys;
 mod lend;
@@ -35,6 +36,7 @@ mod list;
 mod list_text;
 mod pair;
 mod pairs;
+mod parent_child;
 pub mod raw;
 mod record;
 mod refusal;
@@ -42,32 +44,34 @@ mod renaming;
 mod table;
 mod tables;
 mod text;
+mod translation;
 
 pub use bucket::{Bucket, Entry};
 pub use buckets::{translate_bucket, translate_bucket_will_fit};
-pub use cuts::{insert_pivot, join, split_left, split_right, translate_key};
+pub use cuts::{insert_pivot, split_left, split_right};
 pub use edge::Edge;
 pub use element::Element;
 pub use index::{
     build_index, check_index, cut_index_left, cut_index_right, slot_entries, translate_index,
 };
+pub use joining::join;
 pub use key::Key;
 pub use keys::{change_prefix, compare, entry_key, pivot_key, pivot_lcp, shortest_uncommon_prefix};
 pub use lines::ListError;
 pub use list::list_table;
 pub use list_text::ShortForm;
 pub use pair::Pair;
-pub use pairs::{apply_pair, compose_pairs, reverse_pair, translate};
+pub use pairs::{apply_pair, compose_pairs, reverse_pair};
+pub use parent_child::parent_keys_in_child_range;
 pub use refusal::Refusal;
-pub use renaming::{
-    parent_keys_in_child_range, translate_edges, translate_pivot_pair, translate_pivots,
-};
+pub use renaming::{translate_edges, translate_pivot_pair, translate_pivots};
 pub use table::{RecordPlace, Slot, Table};
 pub use tables::{
     bounded_key, contains_all_keys, contains_range, cutoff_for_left, cutoff_for_right, get_key,
     init_pivot_table, pivot_insertable, route, valid_left_cut_off_key, wf_edges, wf_pivots,
 };
 pub use text::{from_hex, TextError};
+pub use translation::{translate, translate_key};
 
 /// The longest key, in bytes.
 pub const MAX_LEN: usize = 64;

@@ -1,6 +1,7 @@
 //! A pair as a value.
-use crate::pairs::{apply_pair, compose_pairs, reverse_pair, translate};
+use crate::pairs::{apply_pair, compose_pairs, reverse_pair};
 use crate::refusal::Refusal;
+use crate::translation::translate;
 use crate::{MAX_LEN, PAIR_SIZE};
 use std::fmt;
 

@@ -1,8 +1,11 @@
-//! Keys and order: compare, the key of a record or an entry, change of prefix.
+//! Keys and order: compare, the key of a record or an entry, change of prefix, the prefix of a range
+//! and the upper bound of a prefix.
 use crate::entry::{one_entry, Entry};
 use crate::image::Image;
-use crate::record::{element, key, one_record, short};
+use crate::range_prefix::range_prefix;
+use crate::record::{element, key, one_record, short, Element};
 use crate::refusal::Refusal;
+use crate::upper_bound::upper_bound;
 use std::cmp::Ordering;
 
 /// The order of two elements.
@@ -33,6 +36,21 @@ pub fn change_prefix(
     let image = Image::of(key, old, new)?;
     image.fit()?;
     image.put(dest)
+}
+
+/// The prefix of the range from a left key up to a right element.
+pub fn pivot_lcp<'a>(left: &'a [u8], right: &[u8]) -> Result<&'a [u8], Refusal> {
+    let right = one_record(right)?;
+    Ok(range_prefix(short(left)?, element(right)?))
+}
+
+/// Writes the upper bound of a prefix, one record, and answers 1.
+pub fn shortest_uncommon_prefix(prefix: &[u8], dest: &mut [u8]) -> Result<usize, Refusal> {
+    match upper_bound(short(prefix)?) {
+        Some(bound) => Element::Key(&bound).put(dest)?,
+        None => Element::Max.put(dest)?,
+    }
+    Ok(1)
 }
 
 #[cfg(test)]
@@ -90,5 +108,29 @@ mod tests {
         assert_eq!(entry_key(&[0; 66]), Err(Refusal::Shape));
         assert_eq!(entry_key(&[0; 71]), Err(Refusal::Shape));
         assert_eq!(entry_key(&[1; 70]), Err(Refusal::Malformed));
+    }
+
+    #[test]
+    fn shape_of_right_before_length_of_left() {
+        assert_eq!(pivot_lcp(&[0; 65], &[0; 65]), Err(Refusal::Shape));
+        assert_eq!(pivot_lcp(&[0; 65], &[0; 66]), Err(Refusal::Malformed));
+    }
+
+    #[test]
+    fn writes_one_record_and_no_byte_more() {
+        let mut dest = [7; 67];
+        assert_eq!(shortest_uncommon_prefix(&[0x41], &mut dest), Ok(1));
+        assert_eq!(dest[..3], [0, 1, 0x42]);
+        assert!(dest[3..66].iter().all(|&b| b == 0));
+        assert_eq!(dest[66], 7);
+    }
+
+    #[test]
+    fn refuses_length_before_room() {
+        let mut dest = [7; 65];
+        let mut bound = |prefix| shortest_uncommon_prefix(prefix, &mut dest);
+        assert_eq!(bound(&[1; 65]), Err(Refusal::Malformed));
+        assert_eq!(bound(&[1; 64]), Err(Refusal::NoRoom));
+        assert_eq!(dest, [7; 65]);
     }
 }
