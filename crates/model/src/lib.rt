@@ -6,6 +6,10 @@ pub const MAX_LEN: usize = 64;
 
 pub const RECORD_SIZE: usize = 66;
 
+pub const NO_EDGE_MARK: u16 = 65534;
+
+pub const MAX_MARK: u16 = 65535;
+
 pub const ENTRY_SIZE: usize = 70;
 
 pub const MAX_ENTRIES: usize = 512;

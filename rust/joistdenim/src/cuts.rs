@@ -9,7 +9,7 @@ use crate::refusal::Refusal;
 /// Refuses 1, 2, 3, 4, 5, 8, 10.
 ///
 /// ```
-/// use joistdenim::{split_left, translate_key, RECORD_SIZE};
+/// use joistdenim::{split_left, translate_key, MAX_LEN, RECORD_SIZE};
 ///
 /// fn record(key: &[u8]) -> [u8; RECORD_SIZE] {
 ///     let mut record = [0; RECORD_SIZE];
@@ -28,7 +28,7 @@ use crate::refusal::Refusal;
 /// assert_eq!(cut_edges, record(&[0x43, 0x30]));
 ///
 /// // A key that the cut keeps is translated as before.
-/// let mut dest = [0; 64];
+/// let mut dest = [0; MAX_LEN];
 /// let length = translate_key(&cut, &cut_edges, &[0x41, 0x30, 0x07], &mut dest)?;
 /// assert_eq!(dest[..length], [0x43, 0x30, 0x07]);
 /// # Ok::<(), joistdenim::Refusal>(())

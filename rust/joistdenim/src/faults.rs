@@ -69,9 +69,9 @@ impl Bucket {
     /// are refused with 1.
     ///
     /// ```
-    /// use joistdenim::Bucket;
+    /// use joistdenim::{Bucket, ENTRY_SIZE};
     ///
-    /// let mut bytes = [0; 70];
+    /// let mut bytes = [0; ENTRY_SIZE];
     /// assert_eq!(Bucket::why_refused(&bytes), None);
     /// bytes[9] = 0xA0;
     /// let reason = "entry 0 at byte 0: byte 9 is a0, and all bytes behind a key of length 0 are 00";

@@ -11,7 +11,7 @@
 //! when they are made, and have the calls as methods; all but a pair are read and printed as text.
 //!
 //! ```
-//! let mut dest = [0; 64];
+//! let mut dest = [0; joistdenim::MAX_LEN];
 //! let length = joistdenim::change_prefix(&[0x41, 0x30], &[0x41], &[0x43], &mut dest)?;
 //! assert_eq!(dest[..length], [0x43, 0x30]);
 //! # Ok::<(), joistdenim::Refusal>(())
@@ -88,6 +88,6 @@ pub const MAX_ENTRIES: usize = 512;
 /// The bytes of a place in an index.
 pub const PLACE_SIZE: usize = 2;
 /// The bytes of a pair: a flag, two lengths of two bytes, and two prefixes in 64 bytes each.
-pub const PAIR_SIZE: usize = 5 + 2 * MAX_LEN;
+pub const PAIR_SIZE: usize = pair::NEW_AT + MAX_LEN;
 /// The bytes of the longest list of a table.
 pub const MAX_LIST: usize = 32_715;

@@ -2,7 +2,8 @@
 //! the calls answer.
 mod support;
 
-use joistdenim::{wf_edges, Edge, Element, Key, RecordPlace, Refusal, Table, MAX_PIVOTS};
+use joistdenim::{wf_edges, Edge, Element, Key, RecordPlace, Refusal, Table};
+use joistdenim::{MAX_LEN, MAX_PIVOTS, RECORD_SIZE};
 use support::{key, pivots, t, table};
 
 #[test]
@@ -83,9 +84,9 @@ fn a_table_is_asked() {
 
 #[test]
 fn a_produced_key_of_64_bytes_is_taken() {
-    let edge = "43".repeat(63);
+    let edge = "43".repeat(MAX_LEN - 1);
     let long = table(&format!("4130 {edge}\n4135\n"));
-    assert_eq!(long.translate_key(&key("4130")).unwrap().len(), 64);
+    assert_eq!(long.translate_key(&key("4130")).unwrap().len(), MAX_LEN);
     assert_eq!(long.translate_key(&key("413000")), Err(Refusal::TooLong));
     assert_eq!(long.split_right(&key("4134ff05")), Err(Refusal::TooLong));
 }
@@ -111,7 +112,7 @@ fn a_table_is_divided_and_put_together() {
 
 #[test]
 fn a_table_has_at_most_64_pivots() {
-    let lines: String = (0..63).map(|i| format!("41{:02x} -\n", 2 * i)).collect();
+    let lines: String = (0..MAX_PIVOTS - 1).map(|i| format!("41{:02x} -\n", 2 * i)).collect();
     let full = table(&format!("{lines}42\n"));
     assert_eq!(full.pivots().len(), MAX_PIVOTS);
     assert_eq!(full.insert_pivot(&key("4101")), Err(Refusal::TooManyPivots));
@@ -140,7 +141,7 @@ fn the_record_that_is_at_fault_is_found() {
         let found = Table::refused_record(&pivots(text), edges);
         assert_eq!(found, place, "{text}");
     }
-    let last = [&pivots("41 42")[..], &[1; 66]].concat();
+    let last = [&pivots("41 42")[..], &[1; RECORD_SIZE]].concat();
     let found = Table::refused_record(&last, &absent);
     assert_eq!(found, Some(RecordPlace::Pivot(2)));
 }

@@ -1,7 +1,7 @@
 //! What the tests share: bytes and values written as text, T, and what is said of a text that is
 //! no table.
 #![allow(dead_code)]
-use joistdenim::{Bucket, Edge, Element, Key, ListError, Refusal, Table};
+use joistdenim::{Bucket, Edge, Element, Key, ListError, Refusal, Table, RECORD_SIZE};
 use std::fmt::Debug;
 use std::str::FromStr;
 
@@ -27,6 +27,14 @@ pub const LIST_OF_T: &str =
 pub fn t() -> Table {
     table(LIST_OF_T)
 }
+
+/// Where a record of the list program's input begins, behind the count of the pivots.
+pub const fn record_at(place: usize) -> usize {
+    2 + place * RECORD_SIZE
+}
+
+/// The bytes of T: the count, three pivots and two edges.
+pub const T_SIZE: usize = record_at(5);
 
 /// A key's bytes alone.
 pub fn bytes(text: &str) -> Vec<u8> {
