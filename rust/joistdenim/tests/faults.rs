@@ -1,7 +1,7 @@
 //! Why bytes are no table or no bucket: the record, where it begins, and what is wrong with it.
 mod support;
 
-use joistdenim::{Bucket, Table, ENTRY_SIZE, MAX_ENTRIES};
+use joistdenim::{Bucket, Table, ENTRY_SIZE, MAX_ENTRIES, RECORD_SIZE};
 use support::{record_at, t, T_SIZE};
 
 /// What is said of T with other bytes from this place on.
@@ -82,7 +82,7 @@ fn entries_that_are_none() {
             "entry 1 at byte 70: its length field is 65, and a key has at most 64 bytes",
         ),
         (
-            205,
+            2 * ENTRY_SIZE + RECORD_SIZE - 1,
             &[7],
             "entry 2 at byte 140: byte 205 is 07, and all bytes behind a key of length 0 are 00",
         ),

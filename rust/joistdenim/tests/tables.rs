@@ -4,7 +4,7 @@ mod support;
 
 use joistdenim::{wf_edges, Edge, Element, Key, RecordPlace, Refusal, Table};
 use joistdenim::{MAX_LEN, MAX_PIVOTS, RECORD_SIZE};
-use support::{key, pivots, t, table};
+use support::{key, pivots, t, table, T_SIZE};
 
 #[test]
 fn a_table_is_the_same_by_parts_by_bytes_and_by_text() {
@@ -17,11 +17,11 @@ fn a_table_is_the_same_by_parts_by_bytes_and_by_text() {
     let bytes = t.to_bytes();
     assert_eq!(
         (bytes.len(), &bytes[..6]),
-        (332, &[0, 3, 0, 2, 0x41, 0x30][..])
+        (T_SIZE, &[0, 3, 0, 2, 0x41, 0x30][..])
     );
     assert_eq!(Table::try_from(&bytes[..]).as_ref(), Ok(&t));
     let (pivots, edges) = t.records();
-    assert_eq!((pivots, edges), bytes[2..].split_at(198));
+    assert_eq!((pivots, edges), bytes[2..].split_at(3 * RECORD_SIZE));
     assert_eq!(wf_edges(pivots, edges), Ok(()));
     assert_eq!(Table::from_records(pivots, edges).as_ref(), Ok(&t));
     assert_eq!(Table::split_input(&bytes), Some((pivots, edges)));
