@@ -2,7 +2,7 @@
 use crate::prototypes::Language;
 use crate::repository::Repository;
 use crate::roots::CALLS;
-use crate::table::spans_of;
+use crate::table::heads;
 use crate::topics::PREFIX;
 use crate::words::words;
 
@@ -45,16 +45,11 @@ pub fn of_headers(repository: &Repository) -> Vec<Heading<'_>> {
 pub fn of_calls(repository: &Repository) -> Vec<Heading<'_>> {
     let text = repository.text(CALLS).unwrap_or("");
     let mut headings = headings(CALLS, text, IN_DOCUMENT);
-    for (i, line) in text.lines().enumerate() {
-        let cell = line
-            .strip_prefix("| `")
-            .and_then(|_| line.split('|').nth(1));
-        for span in spans_of(cell.unwrap_or("")).into_iter().flatten() {
-            match span.rsplit_once("::") {
-                Some((_, name)) => add(&mut headings, i + 1, name),
-                None if span.starts_with(PREFIX) => add(&mut headings, i + 1, &span),
-                None => {}
-            }
+    for (line, span) in heads(text) {
+        match span.rsplit_once("::") {
+            Some((_, name)) => add(&mut headings, line, name),
+            None if span.starts_with(PREFIX) => add(&mut headings, line, &span),
+            None => {}
         }
     }
     headings

@@ -101,7 +101,7 @@ fn another_heading() {
     told(HEADER, "Keys.", "Order.", &[other, unknown]);
     let none = "jd_compare: it stands under no heading in include";
     told(HEADER, "/* ---- Keys. */", "/* Keys. */", &[none]);
-    let other = "jd_compare: it stands under parent_child at docs/CALLS.md:15, and not keys";
+    let other = "jd_compare: it stands under parent_child at docs/CALLS.md:14, and not keys";
     told(
         CALLS,
         "## Parent and child\n",
