@@ -140,5 +140,9 @@ fn of_two_refusals_the_buckets_comes_first() {
     let line = "refused 1: standard input, line 513, column 1: a bucket has at most 512 entries, and this has 513";
     ran(&format!("bucket translate {long} 43 -"), many).failed(1, line);
     let wrong = format!("refused 2: standard input, entry 0 at byte 0: {MAX}");
-    ran(&format!("bucket translate --bytes 43 {long} -"), [0xFF; ENTRY_SIZE]).failed(1, &wrong);
+    ran(
+        &format!("bucket translate --bytes 43 {long} -"),
+        [0xFF; ENTRY_SIZE],
+    )
+    .failed(1, &wrong);
 }

@@ -68,7 +68,9 @@ fn two_tables_are_joined() {
     assert_eq!(ran(&format!("join {low} {high}"), "").done(), joined);
     let line = "the tables don't meet: the first ends with 42, the second begins with 4130";
     ran(&format!("join {high} {low}"), "").failed(1, &format!("refused 13: {line}"));
-    let full: String = (0..MAX_PIVOTS - 1).map(|i| format!("40{i:02x} -\n")).collect();
+    let full: String = (0..MAX_PIVOTS - 1)
+        .map(|i| format!("40{i:02x} -\n"))
+        .collect();
     let full = folder.with("full", table(&format!("{full}4130\n")));
     let line = "refused 12: the table would have more than 64 pivots";
     ran(&format!("join {full} {low}"), "").failed(1, line);
@@ -93,7 +95,9 @@ fn a_key_must_be_inside() {
 
 #[test]
 fn other_refusals() {
-    let full: String = (0..MAX_PIVOTS - 1).map(|i| format!("41{:02x} -\n", 2 * i)).collect();
+    let full: String = (0..MAX_PIVOTS - 1)
+        .map(|i| format!("41{:02x} -\n", 2 * i))
+        .collect();
     let full = format!("{full}42\n");
     let line = "12: the table would have more than 64 pivots";
     refused("insert - 4101", &full, line);

@@ -79,5 +79,7 @@ fn topic(title: &str) -> String {
 fn add(headings: &mut [Heading], line: usize, name: &str) {
     let above = headings.iter_mut().rfind(|heading| heading.line < line);
     let name = name.strip_prefix(PREFIX).unwrap_or(name);
-    above.into_iter().for_each(|h| h.calls.push(name.to_string()));
+    above
+        .into_iter()
+        .for_each(|h| h.calls.push(name.to_string()));
 }

@@ -112,7 +112,12 @@ mod tests {
     #[test]
     fn a_crate_is_built_on_lower_ones() {
         let level = "crates.txt: keys: it is built on scan, which docs/DEVELOPING.md has no lower";
-        told(DOCUMENT, "keys   # by their order\nscan ", "keys scan ", &[level]);
+        told(
+            DOCUMENT,
+            "keys   # by their order\nscan ",
+            "keys scan ",
+            &[level],
+        );
         let turned = "scan: it is built on keys, which";
         told(LIST, "scan: model", "scan: model keys", &[turned]);
     }
@@ -120,7 +125,12 @@ mod tests {
     #[test]
     fn the_drawing_has_crates_alone() {
         let unknown = "docs/DEVELOPING.md: runs is no crate of crates.txt";
-        told(DOCUMENT, "scan   # bytes", "scan runs   # bytes", &[unknown]);
+        told(
+            DOCUMENT,
+            "scan   # bytes",
+            "scan runs   # bytes",
+            &[unknown],
+        );
     }
 
     #[test]
@@ -128,6 +138,11 @@ mod tests {
         let once = |name| format!("{name}: it stands in docs/DEVELOPING.md other than once");
         let [model, scan, keys] = ["model", "scan", "keys"].map(once);
         let none = "no crate stands in its layer";
-        told(DOCUMENT, "## The layers", "## Layers", &[&model, &scan, &keys, none]);
+        told(
+            DOCUMENT,
+            "## The layers",
+            "## Layers",
+            &[&model, &scan, &keys, none],
+        );
     }
 }

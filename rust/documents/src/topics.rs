@@ -53,7 +53,9 @@ pub fn check(repository: &Repository) -> Report {
 fn topics(repository: &Repository, report: &mut Report) -> BTreeMap<String, String> {
     let mut topics = BTreeMap::new();
     for (path, code) in Language::Rattle.files(repository) {
-        let topic = path.split_once(OF).and_then(|(_, file)| file.split_once('.'));
+        let topic = path
+            .split_once(OF)
+            .and_then(|(_, file)| file.split_once('.'));
         for prototype in Language::Rattle.prototypes(&code).into_iter().flatten() {
             let name = prototype.name.text.trim_start_matches(PREFIX);
             match topic {
@@ -72,7 +74,13 @@ fn misplaced(place: &str, headings: &[Heading], name: &str, topic: &str) -> Vec<
         return vec![format!("it stands under no heading in {place}")];
     }
     let others = above.into_iter().filter(|heading| heading.topic != topic);
-    let told = |h: &Heading| format!("it stands under {} at {}, and not {topic}", h.topic, h.place());
+    let told = |h: &Heading| {
+        format!(
+            "it stands under {} at {}, and not {topic}",
+            h.topic,
+            h.place()
+        )
+    };
     others.map(told).collect()
 }
 

@@ -59,15 +59,24 @@ uint32_t jd_asked(uint64_t slot);
 | `parent_child::ask`, in C `jd_asked` | a slot |
 ",
     ),
-    (RAW, "extern \"C\" {\n    pub fn jd_compare(a: *const u8) -> u32;\n}\n"),
+    (
+        RAW,
+        "extern \"C\" {\n    pub fn jd_compare(a: *const u8) -> u32;\n}\n",
+    ),
     (
         "rust/joistdenim/src/raw/parent_child.rs",
         "extern \"C\" {\n    pub fn jd_asked(slot: u64) -> u32;\n}\n",
     ),
-    ("rust/joistdenim/src/keys.rs", "pub fn compare(a: &[u8]) {}\n"),
+    (
+        "rust/joistdenim/src/keys.rs",
+        "pub fn compare(a: &[u8]) {}\n",
+    ),
     (WRAPPER, "pub fn asked(slot: u64) {}\n"),
     (REFERENCE, "pub fn compare(a: &[u8]) {}\n"),
-    ("rust/reference/src/parent_child.rs", "pub fn asked(slot: u64) {}\n"),
+    (
+        "rust/reference/src/parent_child.rs",
+        "pub fn asked(slot: u64) {}\n",
+    ),
     (CASES, "jd_compare\n"),
 ];
 
@@ -91,7 +100,10 @@ fn a_file_of_no_topic() {
     let [own, other] = [FILES[0].1, FILES[1].1];
     let files = [("crates/joistdenim/src/lib.rt", own), (FILES[1].0, other)];
     let report = check(&Repository::of(&[&files[..], &FILES[2..10]].concat()));
-    fails(&report, &["src/lib.rt: compare is exported by no file of a topic"]);
+    fails(
+        &report,
+        &["src/lib.rt: compare is exported by no file of a topic"],
+    );
 }
 
 #[test]

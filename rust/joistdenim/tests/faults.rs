@@ -17,7 +17,11 @@ fn a_length_field_that_is_none() {
     for (field, length) in [([0, 65], 65), ([1, 0], 256), ([0xFF, 0xFD], 65_533)] {
         let said = format!("its length field is {length}, and a key has at most 64 bytes");
         of_table(record_at(0), &field, &format!("pivot 0 at byte 2: {said}"));
-        of_table(record_at(2), &field, &format!("pivot 2 at byte 134: {said}"));
+        of_table(
+            record_at(2),
+            &field,
+            &format!("pivot 2 at byte 134: {said}"),
+        );
         of_table(record_at(4), &field, &format!("edge 1 at byte 266: {said}"));
     }
 }
@@ -25,13 +29,29 @@ fn a_length_field_that_is_none() {
 #[test]
 fn a_byte_that_must_be_zero() {
     let behind_two = "byte 67 is 01, and all bytes behind a key of length 2 are 00";
-    of_table(record_at(1) - 1, &[1], &format!("pivot 0 at byte 2: {behind_two}"));
+    of_table(
+        record_at(1) - 1,
+        &[1],
+        &format!("pivot 0 at byte 2: {behind_two}"),
+    );
     let first = "byte 6 is ff, and all bytes behind a key of length 2 are 00";
-    of_table(record_at(0) + 4, &[0xFF, 1], &format!("pivot 0 at byte 2: {first}"));
+    of_table(
+        record_at(0) + 4,
+        &[0xFF, 1],
+        &format!("pivot 0 at byte 2: {first}"),
+    );
     let shorter = "byte 136 is 42, and all bytes behind a key of length 0 are 00";
-    of_table(record_at(2) + 1, &[0], &format!("pivot 2 at byte 134: {shorter}"));
+    of_table(
+        record_at(2) + 1,
+        &[0],
+        &format!("pivot 2 at byte 134: {shorter}"),
+    );
     let max = "byte 136 is 42, and all bytes behind the mark max are 00";
-    of_table(record_at(2), &[0xFF; 2], &format!("pivot 2 at byte 134: {max}"));
+    of_table(
+        record_at(2),
+        &[0xFF; 2],
+        &format!("pivot 2 at byte 134: {max}"),
+    );
     let none = "byte 331 is 0a, and all bytes behind the mark \"no edge\" are 00";
     of_table(T_SIZE - 1, &[10], &format!("edge 1 at byte 266: {none}"));
 }
@@ -40,9 +60,21 @@ fn a_byte_that_must_be_zero() {
 fn a_mark_in_the_wrong_place() {
     let max = "it has the mark max, which only a table's last pivot can have";
     let no_edge = "it has the mark \"no edge\", which only an edge can have";
-    of_table(record_at(1), &[0xFF; 2], &format!("pivot 1 at byte 68: {max}"));
-    of_table(record_at(4), &[0xFF; 2], &format!("edge 1 at byte 266: {max}"));
-    of_table(record_at(0), &[0xFF, 0xFE], &format!("pivot 0 at byte 2: {no_edge}"));
+    of_table(
+        record_at(1),
+        &[0xFF; 2],
+        &format!("pivot 1 at byte 68: {max}"),
+    );
+    of_table(
+        record_at(4),
+        &[0xFF; 2],
+        &format!("edge 1 at byte 266: {max}"),
+    );
+    of_table(
+        record_at(0),
+        &[0xFF, 0xFE],
+        &format!("pivot 0 at byte 2: {no_edge}"),
+    );
     of_table(
         record_at(2),
         &[0xFF, 0xFE],
@@ -68,7 +100,12 @@ fn what_is_no_fault_of_a_record() {
     spoiled[record_at(1)] = 1;
     assert_eq!(Table::why_refused(&spoiled[..T_SIZE - 1]), None);
     let many = &[0xFF; ENTRY_SIZE * (MAX_ENTRIES + 1)];
-    for bytes in [&[0; 2 * ENTRY_SIZE][..], &[], &many[..2 * ENTRY_SIZE - 1], many] {
+    for bytes in [
+        &[0; 2 * ENTRY_SIZE][..],
+        &[],
+        &many[..2 * ENTRY_SIZE - 1],
+        many,
+    ] {
         assert_eq!(Bucket::why_refused(bytes), None);
     }
 }

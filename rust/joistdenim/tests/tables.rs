@@ -112,7 +112,9 @@ fn a_table_is_divided_and_put_together() {
 
 #[test]
 fn a_table_has_at_most_64_pivots() {
-    let lines: String = (0..MAX_PIVOTS - 1).map(|i| format!("41{:02x} -\n", 2 * i)).collect();
+    let lines: String = (0..MAX_PIVOTS - 1)
+        .map(|i| format!("41{:02x} -\n", 2 * i))
+        .collect();
     let full = table(&format!("{lines}42\n"));
     assert_eq!(full.pivots().len(), MAX_PIVOTS);
     assert_eq!(full.insert_pivot(&key("4101")), Err(Refusal::TooManyPivots));

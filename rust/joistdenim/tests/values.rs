@@ -30,7 +30,10 @@ fn a_key_is_its_bytes() {
 
 #[test]
 fn a_key_has_at_most_64_bytes() {
-    assert_eq!(Key::try_from(&[7; MAX_LEN]).unwrap().as_bytes(), [7; MAX_LEN]);
+    assert_eq!(
+        Key::try_from(&[7; MAX_LEN]).unwrap().as_bytes(),
+        [7; MAX_LEN]
+    );
     assert_eq!(Key::try_from(&[7; MAX_LEN + 1]), Err(Refusal::Malformed));
     assert_eq!(Key::try_from(&vec![0; 70_000][..]), Err(Refusal::Malformed));
 }

@@ -88,8 +88,14 @@ mod tests {
     #[test]
     fn one_of_any_argument_comes_before_two() {
         let malformed = [1; RECORD_SIZE];
-        assert_eq!(compare(&malformed, &[0; RECORD_SIZE - 1]), Err(Refusal::Shape));
-        assert_eq!(compare(&malformed, &[0; RECORD_SIZE]), Err(Refusal::Malformed));
+        assert_eq!(
+            compare(&malformed, &[0; RECORD_SIZE - 1]),
+            Err(Refusal::Shape)
+        );
+        assert_eq!(
+            compare(&malformed, &[0; RECORD_SIZE]),
+            Err(Refusal::Malformed)
+        );
     }
 
     #[test]
@@ -100,7 +106,10 @@ mod tests {
         assert_eq!(change(&[1], &[2], &long, 0), Err(Refusal::Malformed));
         assert_eq!(change(&[1; 9], &[2], &[1; 60], 0), Err(Refusal::NotPrefix));
         assert_eq!(change(&[1; 9], &[1], &[1; 57], 0), Err(Refusal::TooLong));
-        assert_eq!(change(&[1; 9], &[1], &[1; 56], MAX_LEN - 1), Err(Refusal::NoRoom));
+        assert_eq!(
+            change(&[1; 9], &[1], &[1; 56], MAX_LEN - 1),
+            Err(Refusal::NoRoom)
+        );
         assert_eq!(change(&[1; 9], &[1], &[1; 56], MAX_LEN), Ok(MAX_LEN));
     }
 
