@@ -1,7 +1,7 @@
 //! What the tests share: bytes and values written as text, T, and what is said of a text that is
 //! no table.
 #![allow(dead_code)]
-use joistdenim::{Bucket, Edge, Element, Key, ListError, Refusal, Table, RECORD_SIZE};
+use joistdenim::{Bucket, Edge, Element, Key, ListError, Refusal, Table};
 use std::fmt::Debug;
 use std::str::FromStr;
 
@@ -30,7 +30,7 @@ pub fn t() -> Table {
 
 /// Where a record of the list program's input begins, behind the count of the pivots.
 pub const fn record_at(place: usize) -> usize {
-    2 + place * RECORD_SIZE
+    2 + place * joistdenim::RECORD_SIZE
 }
 
 /// The bytes of T: the count, three pivots and two edges.
