@@ -114,6 +114,8 @@ static inline uint8_t *jd_dest(uint8_t *bytes, size_t length)
 extern "C" {
 #endif
 
+/* ---- Keys. */
+
 /* The order of two elements: -1, 0 or 1. Refuses JD_SHAPE, JD_MALFORMED. */
 uint32_t jd_compare(const uint8_t *a, size_t a_len, const uint8_t *b, size_t b_len,
                     int64_t *order);
@@ -142,8 +144,8 @@ uint32_t jd_pivot_lcp(const uint8_t *left, size_t left_len,
 uint32_t jd_shortest_uncommon_prefix(const uint8_t *prefix, size_t prefix_len,
                                      uint8_t *dest, size_t dest_len, uint64_t *written);
 
-/* ---- Pairs. Where the result is a pair, the answer is 1 where it is there and 0 where it is
- * absent. */
+/* ---- Translation. Where the result is a pair, here and below, the answer is 1 where it is there
+ * and 0 where it is absent. */
 
 /* Writes the pair of the key's slot: from the range's prefix to the slot's edge, or absent where
  * the slot has no edge. Refuses JD_SHAPE, JD_MALFORMED, JD_UNSORTED, JD_EMPTY_PREFIX,
@@ -152,6 +154,8 @@ uint32_t jd_translate(const uint8_t *pivots, size_t pivots_len,
                       const uint8_t *edges, size_t edges_len,
                       const uint8_t *key, size_t key_len,
                       uint8_t *dest_pair, size_t dest_pair_len, uint64_t *there);
+
+/* ---- Pairs. */
 
 /* Writes the pair with old and new prefix swapped. Refuses JD_SHAPE, JD_MALFORMED, JD_NO_ROOM. */
 uint32_t jd_reverse_pair(const uint8_t *pair, size_t pair_len,
@@ -172,8 +176,7 @@ uint32_t jd_compose_pairs(const uint8_t *pair_a, size_t pair_a_len,
                           const uint8_t *pair_b, size_t pair_b_len,
                           uint8_t *dest_pair, size_t dest_pair_len, uint64_t *there);
 
-/* ---- Buckets under another prefix. A bucket is 0 to JD_MAX_ENTRIES entries, in any order; keys
- * may be equal. */
+/* ---- Buckets. A bucket is 0 to JD_MAX_ENTRIES entries, in any order; keys may be equal. */
 
 /* Writes the entries whose key begins with the prefix, in their order, with the prefix changed and
  * the number as it was; the others are passed over. Answers how many are written. The destination
@@ -191,7 +194,7 @@ uint32_t jd_translate_bucket_will_fit(const uint8_t *bucket, size_t bucket_len,
                                       const uint8_t *new_prefix, size_t new_prefix_len,
                                       uint64_t dest_len, uint64_t *yes);
 
-/* ---- The list of a table, as text. */
+/* ---- List. */
 
 /* Writes the list of the table in the input; answers the text's length, at most JD_MAX_LIST. The
  * input is the count of the pivots in two bytes, high byte first, the pivots and the edges. The

@@ -18,6 +18,8 @@
 extern "C" {
 #endif
 
+/* ---- Index. */
+
 /* Writes the index, JD_PLACE_SIZE bytes for each pivot; answers the total.
  * Refuses JD_SHAPE, JD_MALFORMED, JD_UNSORTED, JD_ENTRIES_UNSORTED, JD_OUT_OF_RANGE (of an entry),
  * JD_NO_ROOM. */

@@ -15,6 +15,8 @@
 extern "C" {
 #endif
 
+/* ---- Tables. */
+
 /* Whether the pivots are well formed: 0, which is yes, or the refusal; there is nothing more to
  * answer. Refuses JD_SHAPE, JD_MALFORMED, JD_UNSORTED. */
 uint32_t jd_wf_pivots(const uint8_t *pivots, size_t pivots_len);
@@ -71,9 +73,8 @@ uint32_t jd_cutoff_for_left(const uint8_t *pivots, size_t pivots_len,
 uint32_t jd_cutoff_for_right(const uint8_t *pivots, size_t pivots_len,
                              const uint8_t *key, size_t key_len, uint64_t *slot);
 
-/* ---- Cuts of a table with its edges, a new pivot in it, two tables put together, and the
- * translation of a key. A table is written into two destinations; the answer is the pivots
- * written, the edges are one fewer. */
+/* ---- Cuts. A table with its edges is written into two destinations, here and where two are
+ * joined; the answer is the pivots written, the edges are one fewer. */
 
 /* Cuts off what lies from the key on: writes the pivots below the key and the key, and the edges
  * of these slots. The edge of the slot that is cut goes on with what the range's prefix gains.
@@ -104,6 +105,8 @@ uint32_t jd_insert_pivot(const uint8_t *pivots, size_t pivots_len,
                          uint8_t *dest_pivots, size_t dest_pivots_len,
                          uint8_t *dest_edges, size_t dest_edges_len, uint64_t *written);
 
+/* ---- Joining. */
+
 /* Puts two tables together, the first of which ends with the pivot that the second begins with:
  * writes the first's pivots and then the second's behind that one, and the edges of both. The
  * destination for pivots needs 66 bytes less than both slices of pivots, that for edges as much as
@@ -116,6 +119,8 @@ uint32_t jd_join(const uint8_t *first_pivots, size_t first_pivots_len,
                  uint8_t *dest_pivots, size_t dest_pivots_len,
                  uint8_t *dest_edges, size_t dest_edges_len, uint64_t *written);
 
+/* ---- Translation. */
+
 /* Writes the key with its slot's edge in place of the range's prefix, or the key itself where
  * the slot has no edge; answers its length. Refuses JD_SHAPE, JD_MALFORMED, JD_UNSORTED,
  * JD_EMPTY_PREFIX, JD_OUT_OF_RANGE, JD_TOO_LONG, JD_NO_ROOM. */
@@ -124,7 +129,7 @@ uint32_t jd_translate_key(const uint8_t *pivots, size_t pivots_len,
                           const uint8_t *key, size_t key_len,
                           uint8_t *dest, size_t dest_len, uint64_t *length);
 
-/* ---- Pivots and edges under another prefix. */
+/* ---- Renaming. */
 
 /* Writes the range from a left key up to a right element under the new prefix, two records: left
  * with its prefix changed; right with its prefix changed, or the new prefix's upper bound where
@@ -151,6 +156,8 @@ uint32_t jd_translate_pivots(const uint8_t *pivots, size_t pivots_len,
 uint32_t jd_translate_edges(const uint8_t *pivots, size_t pivots_len,
                             const uint8_t *edges, size_t edges_len,
                             uint8_t *dest, size_t dest_len, uint64_t *written);
+
+/* ---- Parent and child. */
 
 /* Whether the child's range holds the range of the parent's slot: under the slot's edge, or as it
  * is where the slot has none. Refuses JD_SHAPE, JD_MALFORMED, JD_UNSORTED, JD_EMPTY_PREFIX (of

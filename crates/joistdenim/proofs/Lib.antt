@@ -1,1 +1,1 @@
-pub mod Telling
+pub mod Passing

@@ -1,6 +1,6 @@
 // The calls on buckets.
-use crate::tell::decided_answer;
-use crate::tell::tell;
+use answers::decided_answer;
+use answers::tell;
 ghost use mathlib.Core.Path.{_≡_};
 ghost use Rattle.model.specs.calls.Refusals.{answerNumber, told, decidedAnswer};
 ghost use Rattle.model.specs.calls.BucketCalls.{translateBucketAnswer, translateBucketLeaves, willFitAnswer};

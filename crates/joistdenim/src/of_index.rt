@@ -1,5 +1,5 @@
 // The calls on a bucket with its index.
-use crate::tell::tell;
+use answers::tell;
 ghost use mathlib.Core.Path.{_≡_};
 ghost use mathlib.Core.Bool.{true, false};
 ghost use Rattle.model.specs.calls.Refusals.{answerNumber, told};

@@ -1,6 +1,6 @@
 // The calls on keys.
-use crate::tell::tell;
-use crate::tell::tell_order;
+use answers::tell;
+use answers::tell_order;
 ghost use mathlib.Core.Path.{_≡_};
 ghost use Rattle.model.specs.calls.Refusals.{answerNumber, comparedNumber, told, toldOrder};
 ghost use Rattle.model.specs.calls.KeyCalls.{compareAnswer, pivotKeyAnswer, entryKeyAnswer, changePrefixAnswer, changePrefixLeaves, pivotLcpAnswer, uncommonPrefixAnswer, uncommonPrefixLeaves};

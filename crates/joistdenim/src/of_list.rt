@@ -1,5 +1,5 @@
 // The list of a table.
-use crate::tell::tell;
+use answers::tell;
 ghost use mathlib.Core.Path.{_≡_};
 ghost use Rattle.model.specs.calls.Refusals.{answerNumber, told};
 ghost use Rattle.model.specs.list.ShelfList.{listTableAnswer, listTableLeaves};

@@ -1,26 +1,8 @@
-// The calls on pairs, and the pair of a key's slot.
-use crate::tell::tell;
+// The calls on pairs.
+use answers::tell;
 ghost use mathlib.Core.Path.{_≡_};
 ghost use Rattle.model.specs.calls.Refusals.{answerNumber, told};
-ghost use Rattle.model.specs.calls.PairRecordCalls.{reversePairAnswer, reversePairLeaves, applyPairAnswer, applyPairLeaves, composePairsAnswer, composePairsLeaves, translatePairAnswer, translatePairLeaves};
-
-#[no_mangle]
-pub extern "C" fn jd_translate(
-    pivots: &[u8],
-    edges: &[u8],
-    key: &[u8],
-    dest: &mut [u8],
-    value: &mut u64,
-) -> u32
-    ensures number { λ r. ⌜ r ≡ answerNumber (translatePairAnswer (now (pivots .entry)) (now (edges .entry)) (now (key .entry)) (now (dest .entry))) ⌝ }
-    ensures value { λ r. ⌜ now (value .exit) ≡ told (translatePairAnswer (now (pivots .entry)) (now (edges .entry)) (now (key .entry)) (now (dest .entry))) (now (value .entry)) ⌝ }
-    ensures written { λ r. ⌜ now (dest .exit) ≡ translatePairLeaves (now (pivots .entry)) (now (edges .entry)) (now (key .entry)) (now (dest .entry)) ⌝ }
-{
-    tell(
-        pair_translation::translate_pair(pivots, edges, key, dest),
-        value,
-    )
-}
+ghost use Rattle.model.specs.calls.PairRecordCalls.{reversePairAnswer, reversePairLeaves, applyPairAnswer, applyPairLeaves, composePairsAnswer, composePairsLeaves};
 
 #[no_mangle]
 pub extern "C" fn jd_reverse_pair(pair: &[u8], dest: &mut [u8], value: &mut u64) -> u32

@@ -1,8 +1,27 @@
-// Pivots and edges under another prefix.
-use crate::tell::tell;
+// A range, pivots and edges under another prefix.
+use answers::tell;
 ghost use mathlib.Core.Path.{_≡_};
 ghost use Rattle.model.specs.calls.Refusals.{answerNumber, told};
-ghost use Rattle.model.specs.calls.RenamingCalls.{pivotsAnswer, pivotsLeaves, edgesAnswer, edgesLeaves};
+ghost use Rattle.model.specs.calls.RenamingCalls.{pivotPairAnswer, pivotPairLeaves, pivotsAnswer, pivotsLeaves, edgesAnswer, edgesLeaves};
+
+#[no_mangle]
+pub extern "C" fn jd_translate_pivot_pair(
+    left: &[u8],
+    right: &[u8],
+    prefix: &[u8],
+    new_prefix: &[u8],
+    dest: &mut [u8],
+    value: &mut u64,
+) -> u32
+    ensures number { λ r. ⌜ r ≡ answerNumber (pivotPairAnswer (now (left .entry)) (now (right .entry)) (now (prefix .entry)) (now («new_prefix» .entry)) (now (dest .entry))) ⌝ }
+    ensures value { λ r. ⌜ now (value .exit) ≡ told (pivotPairAnswer (now (left .entry)) (now (right .entry)) (now (prefix .entry)) (now («new_prefix» .entry)) (now (dest .entry))) (now (value .entry)) ⌝ }
+    ensures written { λ r. ⌜ now (dest .exit) ≡ pivotPairLeaves (now (left .entry)) (now (right .entry)) (now (prefix .entry)) (now («new_prefix» .entry)) (now (dest .entry)) ⌝ }
+{
+    tell(
+        pivot_pair::translate_pivot_pair(left, right, prefix, new_prefix, dest),
+        value,
+    )
+}
 
 #[no_mangle]
 pub extern "C" fn jd_translate_pivots(

@@ -1,7 +1,7 @@
 // The calls on tables.
-use crate::tell::decided_answer;
-use crate::tell::tell;
-use crate::tell::tell_number;
+use answers::decided_answer;
+use answers::tell;
+use answers::tell_number;
 ghost use mathlib.Core.Path.{_≡_};
 ghost use Rattle.model.specs.calls.Refusals.{answerNumber, told, decidedAnswer, slotAnswer};
 ghost use Rattle.model.specs.calls.TableCalls.{wfPivotsAnswer, wfEdgesAnswer, containsAllKeysAnswer, containsRangeAnswer, boundedKeyAnswer, validLeftCutOffKeyAnswer, pivotInsertableAnswer, getKeyAnswer, initPivotTableAnswer, initPivotTableLeaves, routeAnswer, cutoffForLeftAnswer, cutoffForRightAnswer};

@@ -1,4 +1,3 @@
-pub mod inner
 pub mod keys
 pub mod records
 pub mod ranges
@@ -9,3 +8,4 @@ pub mod buckets
 pub mod calls
 pub mod list
 pub mod Rows
+pub mod inner

@@ -1,5 +1,6 @@
 // The first table.
 use model::Answer;
+use model::MAX_MARK;
 use model::MIN_PIVOTS;
 use model::RECORD_SIZE;
 use model::Refusal;
@@ -16,6 +17,6 @@ pub fn init_pivot_table(dest: &mut [u8]) -> Answer
     }
     let none = [0u8; 1];
     records::put_record(0, &none[..0], dest);
-    records::put_record(65535, &none[..0], &mut dest[RECORD_SIZE..]);
-    Answer::Value(2)
+    records::put_record(MAX_MARK, &none[..0], &mut dest[RECORD_SIZE..]);
+    Answer::Value(MIN_PIVOTS)
 }

@@ -1,12 +1,14 @@
 // The upper bound of a prefix. No public function has a `requires`.
 use model::Answer;
 use model::MAX_LEN;
+use model::MAX_MARK;
 use model::RECORD_SIZE;
 use model::Refusal;
 ghost use mathlib.Core.Path.{_≡_};
 ghost use Prim.Native.Nat.{_≤_, _<_};
 ghost use lib.IntN.{pos, predℤ};
 ghost use lib.ListN.{length, getD};
+ghost use Rattle.model.specs.keys.Key.{maxLen};
 ghost use Rattle.model.specs.records.Record.{encode};
 ghost use Rattle.model.specs.ranges.UpperBound.{raisedAt, ShortestUncommonPrefix};
 ghost use Rattle.model.specs.inner.Written.{into};
@@ -15,7 +17,7 @@ ghost use Rattle.upper_bound.specs.Walk.{upToOther};
 
 // The place of the last byte that isn't FF, or -1.
 fn last_other(p: &[u8]) -> i64
-    requires { ⌜ length (now p) ≤ 64 ⌝ }
+    requires { ⌜ length (now p) ≤ maxLen ⌝ }
     ensures { λ r. ⌜ r ≡ predℤ (pos (upToOther (now (p .entry)) (length (now (p .entry))))) ⌝ }
 {
     let mut i = p.len() as i64 - 1;
@@ -30,7 +32,7 @@ fn last_other(p: &[u8]) -> i64
 
 // Writes the record of p up to the place j, the byte there raised by 1, to the head of dest.
 fn put_raised(p: &[u8], j: usize, dest: &mut [u8])
-    requires { ⌜ (length (now p) ≤ 64) × (j < length (now p)) × (getD (now p) j 0 ≡ 255 → ⊥) ⌝ }
+    requires { ⌜ (length (now p) ≤ maxLen) × (j < length (now p)) × (getD (now p) j 0 ≡ 255 → ⊥) ⌝ }
     ensures { λ _. ⌜ now (dest .exit) ≡ into (encode (raisedAt (now (p .entry)) j)) (now (dest .entry)) ⌝ }
 {
     let n = j + 1;
@@ -41,12 +43,12 @@ fn put_raised(p: &[u8], j: usize, dest: &mut [u8])
 
 // Writes the record of the upper bound of p to the head of dest.
 fn put_upper(p: &[u8], dest: &mut [u8])
-    requires { ⌜ length (now p) ≤ 64 ⌝ }
+    requires { ⌜ length (now p) ≤ maxLen ⌝ }
     ensures { λ _. ⌜ now (dest .exit) ≡ into (encode (ShortestUncommonPrefix (now (p .entry)))) (now (dest .entry)) ⌝ }
 {
     let i = last_other(p);
     if i < 0 {
-        records::put_record(65535, &p[..0], dest);
+        records::put_record(MAX_MARK, &p[..0], dest);
     } else {
         put_raised(p, i as usize, dest);
     }

@@ -4,7 +4,7 @@ use crate::case::Case;
 use crate::inputs::{key_record, Table, Xorshift};
 use crate::lent::Slices;
 use crate::sides::case;
-use joistdenim::{build_index, ENTRY_SIZE, NUMBER_SIZE, PLACE_SIZE};
+use joistdenim::{build_index, ENTRY_SIZE, MAX_ENTRIES, NUMBER_SIZE, PLACE_SIZE, RECORD_SIZE};
 use std::collections::BTreeSet;
 use std::rc::Rc;
 
@@ -17,7 +17,7 @@ pub const CALLS: [&str; 6] = [
     "translate_index",
 ];
 /// How many entries the bucket has: of tables with 2, 8 and 64 pivots.
-pub const ENTRIES: [usize; 3] = [8, 64, 512];
+pub const ENTRIES: [usize; 3] = [8, 64, MAX_ENTRIES];
 const ENTRIES_PER_PIVOT: usize = 8;
 /// Few, as of the large tables.
 const TABLES: usize = 4;

@@ -2,7 +2,7 @@
 use crate::case::Case;
 use crate::inputs::{inputs, key_record, prefixes, range, Xorshift};
 use crate::sides::case;
-use joistdenim::RECORD_SIZE;
+use joistdenim::{MAX_LEN, RECORD_SIZE};
 use std::rc::Rc;
 
 pub const CALLS: [&str; 4] = [
@@ -11,7 +11,7 @@ pub const CALLS: [&str; 4] = [
     "change_prefix",
     "shortest_uncommon_prefix",
 ];
-pub const KEYS: [usize; 4] = [3, 8, 32, 64];
+pub const KEYS: [usize; 4] = [3, 8, 32, MAX_LEN];
 
 /// Two keys with a common run of any length.
 fn orders(random: &mut Xorshift, key: usize) -> [Rc<[u8]>; 2] {

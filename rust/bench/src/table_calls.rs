@@ -3,7 +3,7 @@ use crate::case::Case;
 use crate::inputs::{record, Table, Xorshift, MAX};
 use crate::lent::Slices;
 use crate::sides::case;
-use joistdenim::{PAIR_SIZE, RECORD_SIZE};
+use joistdenim::{MAX_PIVOTS, MIN_PIVOTS, PAIR_SIZE, RECORD_SIZE};
 
 pub const CALLS: [&str; 11] = [
     "wf_pivots",
@@ -20,11 +20,11 @@ pub const CALLS: [&str; 11] = [
 ];
 /// Below 64, so that an edge has room to grow.
 pub const KEYS: [usize; 4] = [3, 8, 32, 60];
-pub const PIVOTS: [usize; 3] = [2, 8, 64];
+pub const PIVOTS: [usize; 3] = [MIN_PIVOTS, 8, MAX_PIVOTS];
 /// Of a table that a pivot is put into, and that may have 64 then.
-pub const PIVOTS_BEFORE: [usize; 3] = [2, 8, 63];
+pub const PIVOTS_BEFORE: [usize; 3] = [MIN_PIVOTS, 8, MAX_PIVOTS - 1];
 /// Of a table joined from two halves, of which the smallest have two pivots each.
-pub const PIVOTS_JOINED: [usize; 3] = [3, 8, 64];
+pub const PIVOTS_JOINED: [usize; 3] = [3, 8, MAX_PIVOTS];
 /// Few, so that large tables stay in the nearest caches too.
 const TABLES: usize = 4;
 const KEYS_PER_TABLE: usize = 4;

@@ -1,12 +1,12 @@
 //! `bucket translate`: text and bytes, what is kept and skipped, and what would be too long.
 mod support;
 
-use joistdenim::Number;
+use joistdenim::{Number, ENTRY_SIZE, MAX_ENTRIES, MAX_LEN, RECORD_SIZE};
 use support::{ran, table, Folder, SHORT_T};
 
 const BUCKET: &str = "413001\t7\n42\t8\n413402\t9\n";
 
-/// Why 70 bytes FF are no entry.
+/// Why bytes FF are no entry.
 const MAX: &str = "it has the mark max, which only a table's last pivot can have";
 
 /// The entries' bytes: keys of a few bytes and their numbers.
@@ -14,7 +14,7 @@ fn entries(of: &[(&[u8], Number)]) -> Vec<u8> {
     let mut bytes = vec![];
     for (key, number) in of {
         let at = bytes.len();
-        bytes.resize(at + 66, 0);
+        bytes.resize(at + RECORD_SIZE, 0);
         bytes[at + 1] = key.len() as u8;
         bytes[at + 2..][..key.len()].copy_from_slice(key);
         bytes.extend(number.to_be_bytes());
@@ -88,7 +88,7 @@ fn what_is_no_bucket() {
         let line = format!("joistdenim: {place} {said}");
         ran("bucket translate 41 43 -", text).failed(2, &line);
     }
-    let many = "41 7\n".repeat(513);
+    let many = "41 7\n".repeat(MAX_ENTRIES + 1);
     let line = format!(
         "refused 1: {place} 513, column 1: a bucket has at most 512 entries, and this has 513"
     );
@@ -105,25 +105,25 @@ fn what_are_no_entries() {
         translate(bytes).failed(1, &format!("refused 1: standard input has {said}"));
     };
     let no_multiple = "bytes, which is no multiple of 70, the bytes of an entry";
-    refused(&two[..139], &format!("139 {no_multiple}"));
+    refused(&two[..2 * ENTRY_SIZE - 1], &format!("139 {no_multiple}"));
     refused(&[0; 36_000], &format!("36000 {no_multiple}"));
     refused(
         &table(SHORT_T),
         &format!("332 {no_multiple}; it is a table"),
     );
     let many = |count| format!("{count} entries, and a bucket has at most 512");
-    refused(&two[..70].repeat(513), &many("513"));
+    refused(&two[..ENTRY_SIZE].repeat(MAX_ENTRIES + 1), &many("513"));
     refused(&two.repeat(25_600), &many("51200"));
     refused(&two.repeat(25_601), &many("over 51200"));
     let text = "refused 1: standard input is text; without --bytes it is read";
     translate(BUCKET.as_bytes()).failed(1, text);
-    let wrong = [&two[..], &[0xFF; 70]].concat();
+    let wrong = [&two[..], &[0xFF; ENTRY_SIZE]].concat();
     translate(&wrong).failed(
         1,
         &format!("refused 2: standard input, entry 2 at byte 140: {MAX}"),
     );
     let mut wrong = two.repeat(2);
-    wrong[140 + 65] = 0x0A;
+    wrong[2 * ENTRY_SIZE + RECORD_SIZE - 1] = 0x0A;
     let zero = "byte 205 is 0a, and all bytes behind a key of length 2 are 00";
     translate(&wrong).failed(
         1,
@@ -135,10 +135,14 @@ fn what_are_no_entries() {
 
 #[test]
 fn of_two_refusals_the_buckets_comes_first() {
-    let long = "41".repeat(65);
-    let many = "41 7\n".repeat(513);
+    let long = "41".repeat(MAX_LEN + 1);
+    let many = "41 7\n".repeat(MAX_ENTRIES + 1);
     let line = "refused 1: standard input, line 513, column 1: a bucket has at most 512 entries, and this has 513";
     ran(&format!("bucket translate {long} 43 -"), many).failed(1, line);
     let wrong = format!("refused 2: standard input, entry 0 at byte 0: {MAX}");
-    ran(&format!("bucket translate --bytes 43 {long} -"), [0xFF; 70]).failed(1, &wrong);
+    ran(
+        &format!("bucket translate --bytes 43 {long} -"),
+        [0xFF; ENTRY_SIZE],
+    )
+    .failed(1, &wrong);
 }

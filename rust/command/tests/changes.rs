@@ -1,6 +1,7 @@
 //! `cut`, `insert` and `join`: what they write, and what is refused.
 mod support;
 
+use joistdenim::{MAX_LEN, MAX_PIVOTS};
 use support::{list, ran, table, Folder, SHORT_T};
 
 /// The short form's table after these arguments, with the table on standard input.
@@ -67,7 +68,9 @@ fn two_tables_are_joined() {
     assert_eq!(ran(&format!("join {low} {high}"), "").done(), joined);
     let line = "the tables don't meet: the first ends with 42, the second begins with 4130";
     ran(&format!("join {high} {low}"), "").failed(1, &format!("refused 13: {line}"));
-    let full: String = (0..63).map(|i| format!("40{i:02x} -\n")).collect();
+    let full: String = (0..MAX_PIVOTS - 1)
+        .map(|i| format!("40{i:02x} -\n"))
+        .collect();
     let full = folder.with("full", table(&format!("{full}4130\n")));
     let line = "refused 12: the table would have more than 64 pivots";
     ran(&format!("join {full} {low}"), "").failed(1, line);
@@ -92,11 +95,13 @@ fn a_key_must_be_inside() {
 
 #[test]
 fn other_refusals() {
-    let full: String = (0..63).map(|i| format!("41{:02x} -\n", 2 * i)).collect();
+    let full: String = (0..MAX_PIVOTS - 1)
+        .map(|i| format!("41{:02x} -\n", 2 * i))
+        .collect();
     let full = format!("{full}42\n");
     let line = "12: the table would have more than 64 pivots";
     refused("insert - 4101", &full, line);
-    let long = format!("4130 {}\n4135\n", "43".repeat(63));
+    let long = format!("4130 {}\n4135\n", "43".repeat(MAX_LEN - 1));
     let line = "8: at 4134ff05 an edge would pass 64 bytes";
     refused("cut right - 4134ff05", &long, line);
     refused("insert - 4134ff05", &long, line);
@@ -114,7 +119,7 @@ fn the_first_refusal_over_all_arguments() {
     marked[2..5].copy_from_slice(&[0xFF, 0xFF, 0]);
     folder.with("marked", marked);
     folder.with("short", &table(SHORT_T)[..331]);
-    let long = "41".repeat(65);
+    let long = "41".repeat(MAX_LEN + 1);
     let refused = |arguments: &str, line: &str| {
         let whole = |text: &str| text.replace("DIR/", &folder.at("")).replace("LONG", &long);
         ran(&whole(arguments), "").failed(1, &whole(&format!("refused {line}")));

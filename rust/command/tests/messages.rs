@@ -2,6 +2,7 @@
 //! these.
 mod support;
 
+use joistdenim::{MAX_LEN, MAX_PIVOTS};
 use std::fs;
 use support::{ran, root, table, LIST_OF_T, SHORT_T};
 
@@ -41,8 +42,8 @@ const BYTES: [(usize, &[u8]); 4] = [
 
 /// All that is said of them, line by line.
 fn said() -> Vec<String> {
-    let pivots: String = (0..64).map(|i| format!("41{i:02x} -\n")).collect();
-    let long = "41".repeat(65);
+    let pivots: String = (0..MAX_PIVOTS).map(|i| format!("41{i:02x} -\n")).collect();
+    let long = "41".repeat(MAX_LEN + 1);
     let mut texts = vec![format!("{pivots}42\n"), long, "4\x001\x00".into()];
     texts.extend(SLIPS.map(|(old, new)| LIST_OF_T.replacen(old, new, 1)));
     texts.extend(SHORT.map(String::from));

@@ -2,6 +2,7 @@
 //! be read.
 mod support;
 
+use joistdenim::MAX_LEN;
 use support::shown::{column, lines, of_t, BLOCK, HEADER, OUTSIDE, UNCHANGED};
 use support::{ran, ran_each, ran_in, table, Ran, SHORT_T};
 
@@ -78,7 +79,7 @@ fn a_refused_key_is_told() {
     assert_eq!(beside.status, 1);
     assert_eq!(beside.errors, format!("refused 5: {OUTSIDE}\n"));
     assert_eq!(beside.output, BLOCK.as_bytes());
-    let edge = "43".repeat(63);
+    let edge = "43".repeat(MAX_LEN - 1);
     let long = table(&format!("4130 {edge}\n4135\n"));
     let line = format!("refused 8: 413000 with {edge} in place of 41 would pass 64 bytes");
     ran("show - 413000", long).failed(1, &line);
@@ -86,7 +87,7 @@ fn a_refused_key_is_told() {
 
 #[test]
 fn rows_have_an_answer_for_each_key() {
-    let long = "41".repeat(65);
+    let long = "41".repeat(MAX_LEN + 1);
     let shown = of_t(&format!("show --tsv T 413107 42 4135 {long}"));
     let rows = "413107\t0\t4130\t4135\t41\t43\t433107\t0\n42\t\t\t\t\t\t\t5\n\
                 4135\t1\t4135\t42\t41\t-\t4135\t0\n";
@@ -95,7 +96,7 @@ fn rows_have_an_answer_for_each_key() {
     let too_long = format!("{long} has 65 bytes, and a key has at most 64");
     let errors = format!("refused 5: {OUTSIDE}\nrefused 2: {too_long}\n");
     assert_eq!((shown.status, shown.errors), (1, errors));
-    let long = table(&format!("4130 {}\n4135\n", "43".repeat(63)));
+    let long = table(&format!("4130 {}\n4135\n", "43".repeat(MAX_LEN - 1)));
     let shown = ran("show --tsv - 413000", long);
     let row = String::from_utf8(shown.output).unwrap();
     assert!(row.ends_with("\t\t8\n") && row.contains("\n413000\t0\t4130\t4135\t41\t43"));

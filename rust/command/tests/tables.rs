@@ -1,6 +1,7 @@
 //! `list`, `table` and `check`: round trips, what is refused, and what can't be read.
 mod support;
 
+use joistdenim::{MAX_LEN, MAX_LIST, MAX_PIVOTS};
 use std::fs;
 use support::{list, ran, root, table, Folder, LIST_OF_T, SHORT_T};
 
@@ -14,8 +15,8 @@ fn changed(place: usize, bytes: &[u8]) -> Vec<u8> {
 
 /// 64 pivots of 64 bytes that rise by one in the last, and as long an edge in each slot.
 fn longest() -> String {
-    let (shared, edge) = ("61".repeat(63), "62".repeat(64));
-    let lines = (0..63).map(|i| format!("{shared}{i:02x} {edge}\n"));
+    let (shared, edge) = ("61".repeat(MAX_LEN - 1), "62".repeat(MAX_LEN));
+    let lines = (0..MAX_PIVOTS - 1).map(|i| format!("{shared}{i:02x} {edge}\n"));
     lines.collect::<String>() + &format!("{shared}3f\n")
 }
 
@@ -31,7 +32,7 @@ fn the_list_is_the_table_again() {
         assert_eq!(table(&text), made);
         assert_eq!(list(&table(&text)), text);
     }
-    assert_eq!(list(&table(&longest())).len(), 32_715);
+    assert_eq!(list(&table(&longest())).len(), MAX_LIST);
 }
 
 #[test]
@@ -194,7 +195,7 @@ fn a_text_may_say_what_is_no_table() {
     ] {
         ran("table", text).failed(1, &format!("refused {said}"));
     }
-    let long = format!("41 {}\n42\n", "43".repeat(65));
+    let long = format!("41 {}\n42\n", "43".repeat(MAX_LEN + 1));
     let said = "line 1, column 4: a key has at most 64 bytes, and this one has 65";
     ran("table", long).failed(1, &format!("refused 2: standard input, {said}"));
 }
@@ -222,7 +223,7 @@ fn text_in_utf_16_is_told() {
         }
     }
     // An edge's record, which begins as a text with a mark may.
-    let record = [&[0xFF, 0xFE][..], &[0; 64]].concat();
+    let record = [&[0xFF, 0xFE][..], &[0; MAX_LEN]].concat();
     let count = "standard input begins with a count of 65534, and a table has 2 to 64 pivots";
     ran("list -", record).failed(1, &format!("refused 1: {count}"));
     // A count alone.

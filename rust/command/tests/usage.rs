@@ -214,7 +214,7 @@ fn standard_input_is_read_once() {
 #[test]
 fn a_key_over_64_bytes_is_refused() {
     let t = support::table(SHORT_T);
-    let (digits, letters) = ("41".repeat(65), "A".repeat(65));
+    let (digits, letters) = ("41".repeat(MAX_LEN + 1), "A".repeat(MAX_LEN + 1));
     let line = &format!("refused 2: {digits} has 65 bytes, and a key has at most 64");
     let shown =
         &format!("refused 2: {digits} \"{letters}\" has 65 bytes, and a key has at most 64");

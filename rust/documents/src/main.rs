@@ -1,9 +1,10 @@
 //! Checks the documents, from the root of the repository: `documents contracts` the table of the source's contracts,
 //! `documents names` the names in code style and the links, `documents believed` the list of what must be believed; and
 //! what they say of the code, `documents requires`: no public function has one. `documents signatures` holds the boundary,
-//! the headers and the Rust declarations against each other, and `documents refusals` what lists refusals, in code and
-//! text, against their numbers and turns. A line for each failure, then 'N passed, M failed'; the status is 1 where
-//! something failed.
+//! the headers and the Rust declarations against each other, `documents topics` the names under which each call is found
+//! there, and `documents refusals` what lists refusals, in code and text, against their numbers and turns. `documents
+//! layers` holds the drawing of the crates against the list of them. A line for each failure, then 'N passed, M failed';
+//! the status is 1 where something failed.
 mod believed;
 #[cfg(test)]
 mod believed_sample;
@@ -22,8 +23,10 @@ mod evidence_tests;
 mod exceptions;
 mod forms;
 mod functions;
+mod headings;
 mod in_turn;
 mod known;
+mod layers;
 mod links;
 mod listings;
 #[cfg(test)]
@@ -55,6 +58,9 @@ mod table;
 #[cfg(test)]
 mod theorem_tests;
 mod theorems;
+mod topics;
+#[cfg(test)]
+mod topics_tests;
 mod words;
 
 use exceptions::EXCEPTIONS;
@@ -78,9 +84,11 @@ fn main() -> ExitCode {
         "believed" => believed::check(&repository),
         "requires" => requires::check(&repository),
         "signatures" => signatures::check(&repository),
+        "topics" => topics::check(&repository),
+        "layers" => layers::check(&repository),
         "refusals" => listings::check(&repository, PLACES).and(in_turn::check(&repository)),
         _ => {
-            eprintln!("documents contracts | names | believed | requires | signatures | refusals");
+            eprintln!("documents contracts | names | believed | requires | signatures | topics | layers | refusals");
             return ExitCode::from(2);
         }
     };

@@ -5,7 +5,7 @@ use crate::functions::{functions, Function};
 use crate::report::Report;
 use crate::repository::Repository;
 use crate::scope::Scope;
-use crate::table::spans_of;
+use crate::table::heads;
 use std::collections::BTreeMap;
 
 /// The document that lists the calls.
@@ -49,15 +49,8 @@ pub fn of_contracts(
 
 /// The calls of the document with their lines: `crate::name` at the head of a table's row.
 fn calls(document: &str) -> Vec<(usize, String)> {
-    let mut found = vec![];
-    for (i, line) in document.lines().enumerate() {
-        let first = line
-            .strip_prefix("| `")
-            .and_then(|_| line.split('|').nth(1));
-        let spans = spans_of(first.unwrap_or("")).into_iter().flatten();
-        let calls = spans.filter(|span| span.contains("::"));
-        found.extend(calls.map(|call| (i + 1, call)));
-    }
+    let mut found = heads(document);
+    found.retain(|(_, span)| span.contains("::"));
     found
 }
 

@@ -56,6 +56,19 @@ fn cells(line: &str) -> Vec<String> {
     cells.iter().map(|cell| cell.trim().to_string()).collect()
 }
 
+/// The spans of code in the first cell of each row that begins with one, with its line.
+pub fn heads(document: &str) -> Vec<(usize, String)> {
+    let mut found = vec![];
+    for (i, line) in document.lines().enumerate() {
+        let first = line
+            .strip_prefix("| `")
+            .and_then(|_| line.split('|').nth(1));
+        let spans = spans_of(first.unwrap_or("")).into_iter().flatten();
+        found.extend(spans.map(|span| (i + 1, span)));
+    }
+    found
+}
+
 /// The spans of code outside fenced blocks, each with its line.
 pub fn spans(document: &str) -> Vec<(usize, Span)> {
     let mut found = vec![];

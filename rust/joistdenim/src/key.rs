@@ -14,13 +14,13 @@ use std::str::FromStr;
 /// As text it is hexadecimal, and the empty key `-`, as in the list of a table.
 ///
 /// ```
-/// use joistdenim::{Key, Refusal};
+/// use joistdenim::{Key, Refusal, MAX_LEN};
 ///
 /// let key: Key = "413107".parse()?;
 /// assert_eq!(key.as_bytes(), [0x41, 0x31, 0x07]);
 /// assert!(key < Key::try_from(b"A2")?);
 /// assert_eq!(Key::EMPTY.to_string(), "-");
-/// assert_eq!(Key::try_from(&[0; 65]), Err(Refusal::Malformed));
+/// assert_eq!(Key::try_from(&[0; MAX_LEN + 1]), Err(Refusal::Malformed));
 /// # Ok::<(), Box<dyn std::error::Error>>(())
 /// ```
 #[derive(Clone, Copy, PartialEq, Eq, Hash)]

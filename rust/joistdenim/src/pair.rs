@@ -1,12 +1,14 @@
 //! A pair as a value.
-use crate::pairs::{apply_pair, compose_pairs, reverse_pair, translate};
+use crate::pairs::{apply_pair, compose_pairs, reverse_pair};
+use crate::record::LENGTH_SIZE;
 use crate::refusal::Refusal;
+use crate::translation::translate;
 use crate::{MAX_LEN, PAIR_SIZE};
 use std::fmt;
 
-/// Where the record of a pair has its prefixes.
-const OLD_AT: usize = 5;
-const NEW_AT: usize = OLD_AT + MAX_LEN;
+/// Where the record of a pair has its prefixes: behind the flag and both lengths.
+const OLD_AT: usize = 1 + 2 * LENGTH_SIZE;
+pub(crate) const NEW_AT: usize = OLD_AT + MAX_LEN;
 
 /// A change of prefix: a key that begins with the old prefix gets the new one in its place. Or
 /// the absent pair, which changes nothing.
@@ -14,7 +16,7 @@ const NEW_AT: usize = OLD_AT + MAX_LEN;
 /// It is its record, with zeros wherever nothing is looked at; so equal pairs have equal bytes.
 ///
 /// ```
-/// use joistdenim::Pair;
+/// use joistdenim::{Pair, MAX_LEN};
 ///
 /// let a = Pair::new(&[0x41], &[0x50])?;
 /// let b = Pair::new(&[0x41, 0x30], &[0x60, 0x01])?;
@@ -22,7 +24,7 @@ const NEW_AT: usize = OLD_AT + MAX_LEN;
 /// let c = a.compose(&b)?;
 /// assert_eq!(c.prefixes(), Some((&[0x60, 0x01][..], &[0x50, 0x30][..])));
 ///
-/// let mut dest = [0; 64];
+/// let mut dest = [0; MAX_LEN];
 /// let length = c.apply(&[0x60, 0x01, 0x07], &mut dest)?;
 /// assert_eq!(dest[..length], [0x50, 0x30, 0x07]);
 /// assert_eq!(Pair::ABSENT.compose(&b)?, b.reversed());

@@ -1,20 +1,7 @@
-//! Pairs as records of 133 bytes, and the pair of a key in a table. `Pair` is such a record as a
-//! value.
+//! Pairs as records of 133 bytes. `Pair` is such a record as a value.
 use crate::lend::lend;
 use crate::raw;
 use crate::refusal::Refusal;
-
-/// Writes the pair of the key's slot, from the range's prefix to the slot's edge; it is absent
-/// where the slot has no edge. Answers whether it is there. Refuses 1, 2, 3, 4, 5, 10.
-pub fn translate(
-    pivots: &[u8],
-    edges: &[u8],
-    key: &[u8],
-    dest_pair: &mut [u8],
-) -> Result<bool, Refusal> {
-    let there = lend!(raw::jd_translate, pivots, edges, key; dest_pair)?;
-    Ok(there == 1)
-}
 
 /// Writes the pair with old and new prefix swapped; answers whether it is there.
 /// Refuses 1, 2, 10.

@@ -3,8 +3,11 @@ use crate::RECORD_SIZE;
 
 pub type Record = [u8; RECORD_SIZE];
 
+/// The bytes of a length, high byte first.
+pub const LENGTH_SIZE: usize = 2;
+
 /// A record's key begins after its length field.
-pub const KEY_AT: usize = 2;
+pub const KEY_AT: usize = LENGTH_SIZE;
 
 /// The length fields that are no length.
 pub const NO_EDGE: u16 = 0xFFFE;

@@ -1,4 +1,4 @@
-//! Pivots and edges under another prefix, and the question of parent and child.
+//! A range, pivots and edges under another prefix.
 use crate::lend::lend;
 use crate::raw;
 use crate::refusal::Refusal;
@@ -49,17 +49,4 @@ pub fn translate_pivots(
 pub fn translate_edges(pivots: &[u8], edges: &[u8], dest: &mut [u8]) -> Result<usize, Refusal> {
     let written = lend!(raw::jd_translate_edges, pivots, edges; dest)?;
     Ok(written as usize)
-}
-
-/// Whether the child's range holds the range of the parent's slot: under the slot's edge, or as
-/// it is where the slot has none. Refuses 1, 2, 3, 4, 6, 8.
-pub fn parent_keys_in_child_range(
-    parent_pivots: &[u8],
-    parent_edges: &[u8],
-    child_pivots: &[u8],
-    slot: u64,
-) -> Result<bool, Refusal> {
-    let (parent, edges, child) = (parent_pivots, parent_edges, child_pivots);
-    let yes = lend!(raw::jd_parent_keys_in_child_range, parent, edges, child; ; slot)?;
-    Ok(yes == 1)
 }

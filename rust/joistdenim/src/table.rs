@@ -1,13 +1,15 @@
 //! A table with its edges as a value.
-use crate::cuts::{insert_pivot, join, split_left, split_right, translate_key};
+use crate::cuts::{insert_pivot, split_left, split_right};
 use crate::edge::Edge;
 use crate::element::Element;
+use crate::joining::join;
 use crate::key::Key;
 use crate::keys::{pivot_key, pivot_lcp};
 use crate::list::list_table;
 use crate::pair::Pair;
 use crate::refusal::Refusal;
 use crate::tables::{bounded_key, contains_all_keys, init_pivot_table, route, wf_edges};
+use crate::translation::translate_key;
 use crate::{MAX_LIST, MAX_PIVOTS, RECORD_SIZE};
 use std::fmt;
 

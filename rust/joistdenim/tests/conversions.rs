@@ -3,9 +3,12 @@
 mod support;
 
 use joistdenim::{list_table, Bucket, Edge, Element, Entry, Key, Pair, Refusal, Table};
-use joistdenim::{ENTRY_SIZE, PAIR_SIZE, RECORD_SIZE};
+use joistdenim::{ENTRY_SIZE, MAX_LEN, PAIR_SIZE, RECORD_SIZE};
 use std::fmt::Debug;
-use support::{key, t};
+use support::{key, record_at, t, T_SIZE};
+
+/// More bytes than a key has.
+const LONG: usize = MAX_LEN + 1;
 
 /// What is made of the bytes, lent or given in each way.
 fn made<T, const N: usize>(bytes: [u8; N]) -> Result<T, Refusal>
@@ -35,14 +38,14 @@ fn vectors_and_arrays_are_taken_as_slices_are() {
     assert_eq!(made(entry.to_bytes()), Bucket::new(&[entry]));
     let pair = Pair::new(&[0x41], &[0x43]).unwrap();
     assert_eq!(made(*pair.as_bytes()), Ok(pair));
-    let bytes: [u8; 332] = t().to_bytes().try_into().unwrap();
+    let bytes: [u8; T_SIZE] = t().to_bytes().try_into().unwrap();
     assert_eq!(made(bytes), Ok(t()));
 }
 
 #[test]
 fn vectors_and_arrays_are_refused_as_slices_are() {
-    assert_eq!(made::<Key, 65>([0; 65]), Err(Refusal::Malformed));
-    assert_eq!(made::<Element, 65>([0; 65]), Err(Refusal::Shape));
+    assert_eq!(made::<Key, LONG>([0; LONG]), Err(Refusal::Malformed));
+    assert_eq!(made::<Element, LONG>([0; LONG]), Err(Refusal::Shape));
     let ones = [1; RECORD_SIZE];
     assert_eq!(made::<Edge, RECORD_SIZE>(ones), Err(Refusal::Malformed));
     let ones = [1; ENTRY_SIZE];
@@ -76,10 +79,10 @@ fn a_table_of_bytes_is_refused_as_the_list_program_refuses_it() {
     assert_eq!(Table::from_bytes(&bytes), Ok(t()));
     let cases: [(usize, &[u8], Refusal); 5] = [
         (0, &[0, 2], Refusal::Shape),
-        (68, &[0, 65], Refusal::Malformed),
-        (266, &[0xFF, 0xFF], Refusal::Malformed),
-        (71, &[0x30], Refusal::Unsorted),
-        (4, &[0x40], Refusal::EmptyPrefix),
+        (record_at(1), &[0, LONG as u8], Refusal::Malformed),
+        (record_at(4), &[0xFF, 0xFF], Refusal::Malformed),
+        (record_at(1) + 3, &[0x30], Refusal::Unsorted),
+        (record_at(0) + 2, &[0x40], Refusal::EmptyPrefix),
     ];
     for (place, other, refusal) in cases {
         let mut bytes = bytes.clone();
@@ -89,7 +92,7 @@ fn a_table_of_bytes_is_refused_as_the_list_program_refuses_it() {
         assert_eq!(list_table(&bytes, &mut list), Ok(10));
         assert_eq!(list, *format!("refused\t{}\n", refusal.number()).as_bytes());
     }
-    assert_eq!(Table::from_bytes(&bytes[..331]), Err(Refusal::Shape));
+    assert_eq!(Table::from_bytes(&bytes[..T_SIZE - 1]), Err(Refusal::Shape));
     let longer = [&bytes[..], &[0]].concat();
     assert_eq!(Table::from_bytes(&longer), Err(Refusal::Shape));
 }

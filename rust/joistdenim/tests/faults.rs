@@ -1,10 +1,10 @@
 //! Why bytes are no table or no bucket: the record, where it begins, and what is wrong with it.
 mod support;
 
-use joistdenim::{Bucket, Table};
-use support::t;
+use joistdenim::{Bucket, Table, ENTRY_SIZE, MAX_ENTRIES};
+use support::{t, T_SIZE};
 
-/// What is said of T with other bytes from this place on.
+/// What is said of T with other bytes from this place on. Places are as the message tells them.
 #[track_caller]
 fn of_table(place: usize, bytes: &[u8], said: &str) {
     let mut input = t().to_bytes();
@@ -61,13 +61,19 @@ fn records_that_are_no_table() {
 #[test]
 fn what_is_no_fault_of_a_record() {
     let t = t().to_bytes();
-    for input in [&[], &t[..1], &t[..331], &t[..]] {
+    for input in [&[], &t[..1], &t[..T_SIZE - 1], &t[..]] {
         assert_eq!(Table::why_refused(input), None);
     }
     let mut spoiled = t.clone();
     spoiled[68] = 1;
-    assert_eq!(Table::why_refused(&spoiled[..331]), None);
-    for bytes in [&[0; 140][..], &[], &[0xFF; 139], &[0xFF; 70 * 513]] {
+    assert_eq!(Table::why_refused(&spoiled[..T_SIZE - 1]), None);
+    let many = &[0xFF; ENTRY_SIZE * (MAX_ENTRIES + 1)];
+    for bytes in [
+        &[0; 2 * ENTRY_SIZE][..],
+        &[],
+        &many[..2 * ENTRY_SIZE - 1],
+        many,
+    ] {
         assert_eq!(Bucket::why_refused(bytes), None);
     }
 }
@@ -97,7 +103,7 @@ fn entries_that_are_none() {
         ),
     ];
     for (place, wrong, said) in cases {
-        let mut bytes = [0; 210];
+        let mut bytes = [0; 3 * ENTRY_SIZE];
         bytes[place..][..wrong.len()].copy_from_slice(wrong);
         assert_eq!(Bucket::why_refused(&bytes).as_deref(), Some(said));
     }

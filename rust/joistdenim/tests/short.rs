@@ -2,7 +2,7 @@
 //! fault with its line and column.
 mod support;
 
-use joistdenim::Table;
+use joistdenim::{Table, MAX_LEN};
 use support::{all_are_t, faults_of_tables, t};
 
 #[test]
@@ -26,7 +26,7 @@ fn it_is_read() {
 
 #[test]
 fn it_is_printed_and_read_back() {
-    let long = "62".repeat(64);
+    let long = "62".repeat(MAX_LEN);
     let cases = [
         ("4130 43\n4135 -\n42\n", "4130\t41>43\n4135\t-\n42\n".into()),
         ("- -\nmax\n", "-\t-\nmax\n".into()),

@@ -2,8 +2,9 @@
 //! the calls answer.
 mod support;
 
-use joistdenim::{wf_edges, Edge, Element, Key, RecordPlace, Refusal, Table, MAX_PIVOTS};
-use support::{key, pivots, t, table};
+use joistdenim::{wf_edges, Edge, Element, Key, RecordPlace, Refusal, Table};
+use joistdenim::{MAX_LEN, MAX_PIVOTS, RECORD_SIZE};
+use support::{key, pivots, t, table, T_SIZE};
 
 #[test]
 fn a_table_is_the_same_by_parts_by_bytes_and_by_text() {
@@ -16,11 +17,11 @@ fn a_table_is_the_same_by_parts_by_bytes_and_by_text() {
     let bytes = t.to_bytes();
     assert_eq!(
         (bytes.len(), &bytes[..6]),
-        (332, &[0, 3, 0, 2, 0x41, 0x30][..])
+        (T_SIZE, &[0, 3, 0, 2, 0x41, 0x30][..])
     );
     assert_eq!(Table::try_from(&bytes[..]).as_ref(), Ok(&t));
     let (pivots, edges) = t.records();
-    assert_eq!((pivots, edges), bytes[2..].split_at(198));
+    assert_eq!((pivots, edges), bytes[2..].split_at(3 * RECORD_SIZE));
     assert_eq!(wf_edges(pivots, edges), Ok(()));
     assert_eq!(Table::from_records(pivots, edges).as_ref(), Ok(&t));
     assert_eq!(Table::split_input(&bytes), Some((pivots, edges)));
@@ -83,9 +84,9 @@ fn a_table_is_asked() {
 
 #[test]
 fn a_produced_key_of_64_bytes_is_taken() {
-    let edge = "43".repeat(63);
+    let edge = "43".repeat(MAX_LEN - 1);
     let long = table(&format!("4130 {edge}\n4135\n"));
-    assert_eq!(long.translate_key(&key("4130")).unwrap().len(), 64);
+    assert_eq!(long.translate_key(&key("4130")).unwrap().len(), MAX_LEN);
     assert_eq!(long.translate_key(&key("413000")), Err(Refusal::TooLong));
     assert_eq!(long.split_right(&key("4134ff05")), Err(Refusal::TooLong));
 }
@@ -111,7 +112,9 @@ fn a_table_is_divided_and_put_together() {
 
 #[test]
 fn a_table_has_at_most_64_pivots() {
-    let lines: String = (0..63).map(|i| format!("41{:02x} -\n", 2 * i)).collect();
+    let lines: String = (0..MAX_PIVOTS - 1)
+        .map(|i| format!("41{:02x} -\n", 2 * i))
+        .collect();
     let full = table(&format!("{lines}42\n"));
     assert_eq!(full.pivots().len(), MAX_PIVOTS);
     assert_eq!(full.insert_pivot(&key("4101")), Err(Refusal::TooManyPivots));
@@ -140,7 +143,7 @@ fn the_record_that_is_at_fault_is_found() {
         let found = Table::refused_record(&pivots(text), edges);
         assert_eq!(found, place, "{text}");
     }
-    let last = [&pivots("41 42")[..], &[1; 66]].concat();
+    let last = [&pivots("41 42")[..], &[1; RECORD_SIZE]].concat();
     let found = Table::refused_record(&last, &absent);
     assert_eq!(found, Some(RecordPlace::Pivot(2)));
 }

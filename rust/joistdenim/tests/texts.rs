@@ -2,7 +2,7 @@
 //! with its line and column.
 mod support;
 
-use joistdenim::{Bucket, Number, Refusal, Table};
+use joistdenim::{Bucket, Number, Refusal, Table, MAX_ENTRIES, MAX_LEN, MAX_PIVOTS};
 use support::{all_are_t, faults_of_tables, said, t, Said, LIST_OF_T};
 
 #[test]
@@ -101,7 +101,7 @@ fn a_moved_bound_changes_what_is_shared() {
     assert_eq!(mended.translate_key(&key), t().translate_key(&key));
     // Nothing is replaced without an edge, and a new one that is too long can't be written.
     let share = "what the keys of this slot share is 4130";
-    let long = moved.replace("43\n", &format!("{}\n", "43".repeat(64)));
+    let long = moved.replace("43\n", &format!("{}\n", "43".repeat(MAX_LEN)));
     let none = moved.replace("43\n", "-\n");
     faults_of_tables(&[(&long, (2, 13, share, 0)), (&none, (2, 13, share, 0))]);
 }
@@ -115,11 +115,11 @@ fn refused_tables() {
     let empty = |left, right| {
         format!("an edge where shared is empty: keys from {left} up to {right} share nothing; no edge is written -")
     };
-    let long = format!("41 -\n{} -\n42\n", "41".repeat(65));
+    let long = format!("41 -\n{} -\n42\n", "41".repeat(MAX_LEN + 1));
     let many: String = (0..70).map(|i| format!("41{i:02x} -\n")).collect();
     faults_of_tables(&[
         ("42\n", (2, 1, &number(1), 1)),
-        (&format!("{many}42\n"), (65, 1, &number(71), 1)),
+        (&format!("{many}42\n"), (MAX_PIVOTS + 1, 1, &number(71), 1)),
         (
             &long,
             (2, 1, "a key has at most 64 bytes, and this one has 65", 2),
@@ -166,7 +166,7 @@ fn faults_of_buckets() {
     let fields = |count| {
         format!("a line of a bucket has 2 fields, a key and a number, and this has {count}")
     };
-    let many = "41 7\n".repeat(513);
+    let many = "41 7\n".repeat(MAX_ENTRIES + 1);
     let cases = [
         ("41", (1, 1, fields(1), 0)),
         ("41 7\n41 7 8\n", (2, 1, fields(3), 0)),
@@ -187,7 +187,7 @@ fn faults_of_buckets() {
         (
             &many,
             (
-                513,
+                MAX_ENTRIES + 1,
                 1,
                 "a bucket has at most 512 entries, and this has 513".into(),
                 1,

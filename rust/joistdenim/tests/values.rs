@@ -3,7 +3,7 @@ mod support;
 
 use joistdenim::{
     from_hex, Bucket, Edge, Element, Entry, Key, Number, Refusal, TextError, ENTRY_SIZE,
-    MAX_ENTRIES, NUMBER_SIZE, RECORD_SIZE,
+    MAX_ENTRIES, MAX_LEN, NUMBER_SIZE, RECORD_SIZE,
 };
 use std::collections::HashSet;
 use support::key;
@@ -30,8 +30,11 @@ fn a_key_is_its_bytes() {
 
 #[test]
 fn a_key_has_at_most_64_bytes() {
-    assert_eq!(Key::try_from(&[7; 64]).unwrap().as_bytes(), [7; 64]);
-    assert_eq!(Key::try_from(&[7; 65]), Err(Refusal::Malformed));
+    assert_eq!(
+        Key::try_from(&[7; MAX_LEN]).unwrap().as_bytes(),
+        [7; MAX_LEN]
+    );
+    assert_eq!(Key::try_from(&[7; MAX_LEN + 1]), Err(Refusal::Malformed));
     assert_eq!(Key::try_from(&vec![0; 70_000][..]), Err(Refusal::Malformed));
 }
 
@@ -58,7 +61,7 @@ fn a_prefix_is_changed() {
         key("4030").change_prefix(&old, &new),
         Err(Refusal::NotPrefix)
     );
-    let long = Key::try_from(&[0x41; 64]).unwrap();
+    let long = Key::try_from(&[0x41; MAX_LEN]).unwrap();
     assert_eq!(long.change_prefix(&old, &new), Err(Refusal::TooLong));
 }
 
@@ -92,11 +95,12 @@ fn a_text_that_is_no_key_is_told_with_its_place() {
     assert_eq!("413".parse::<Key>(), Err(half));
     assert_eq!("413".parse::<Element>(), Err(half));
     assert_eq!("413".parse::<Edge>(), Err(half));
-    let error = "41".repeat(65).parse::<Key>().unwrap_err();
+    let long = "41".repeat(MAX_LEN + 1);
+    let error = long.parse::<Key>().unwrap_err();
     assert_eq!(error.refusal(), Some(Refusal::Malformed));
     let said = "a key has at most 64 bytes, and this one has 65";
     assert_eq!(error.to_string(), said);
-    assert_eq!(from_hex(&"41".repeat(65)), Ok(vec![0x41; 65]));
+    assert_eq!(from_hex(&long), Ok(vec![0x41; MAX_LEN + 1]));
     assert_eq!(from_hex("413"), Err(half));
 }
 
@@ -120,11 +124,11 @@ fn elements_and_edges_are_read_from_records() {
     );
     assert_eq!(Element::try_from(&absent[..]), Err(Refusal::Malformed));
     assert_eq!(Edge::try_from(&max[..]), Err(Refusal::Malformed));
-    for record in [marked(65), marked(0x4100)] {
+    for record in [marked(MAX_LEN as u16 + 1), marked(0x4100)] {
         assert_eq!(Element::try_from(&record[..]), Err(Refusal::Malformed));
         assert_eq!(Edge::try_from(&record[..]), Err(Refusal::Malformed));
     }
-    for length in [0, 65, 67, 132] {
+    for length in [0, RECORD_SIZE - 1, RECORD_SIZE + 1, 2 * RECORD_SIZE] {
         assert_eq!(Element::try_from(&vec![0; length][..]), Err(Refusal::Shape));
         assert_eq!(Edge::try_from(&vec![0; length][..]), Err(Refusal::Shape));
     }
@@ -148,7 +152,7 @@ fn a_bucket_is_its_entries() {
     assert_eq!(Bucket::try_from(bucket.as_bytes()).as_ref(), Ok(&bucket));
     let kept = bucket.translate(&key("41"), &Key::EMPTY).unwrap();
     assert_eq!(kept.to_string(), "30\t7\n30\t0\n");
-    let long = Key::try_from(&[0x43; 64]).unwrap();
+    let long = Key::try_from(&[0x43; MAX_LEN]).unwrap();
     assert_eq!(bucket.translate(&key("41"), &long), Err(Refusal::TooLong));
     assert_eq!(Bucket::default().to_string(), "");
 }

@@ -3,7 +3,7 @@
 use crate::record::{put_all, Edge, Element, MAX_LEN, RECORD_SIZE};
 use crate::refusal::{refuse_if, Refusal};
 use crate::table::{Pivots, MAX_PIVOTS};
-use crate::table_calls::table_and_key;
+use crate::tables::table_and_key;
 
 /// What becomes of the edge of a slot that is cut: the old edge, "followed by what the new
 /// range's prefix has beyond the old one's". Here it may have any length.

@@ -20,9 +20,9 @@ mod index;
 mod index_tests;
 #[cfg(test)]
 mod insert_tests;
-mod join;
 #[cfg(test)]
 mod join_tests;
+mod joining;
 mod keys;
 mod list;
 #[cfg(test)]
@@ -41,9 +41,9 @@ mod renaming;
 #[cfg(test)]
 mod renaming_tests;
 mod table;
-mod table_calls;
 #[cfg(test)]
 mod table_tests;
+mod tables;
 #[cfg(test)]
 mod test_tables;
 mod translation;
@@ -56,20 +56,20 @@ pub use index::{
     build_index, check_index, cut_index_left, cut_index_right, slot_entries, translate_index,
     PLACE_SIZE,
 };
-pub use join::join;
-pub use keys::{change_prefix, compare, entry_key, pivot_key};
+pub use joining::join;
+pub use keys::{change_prefix, compare, entry_key, pivot_key, pivot_lcp, shortest_uncommon_prefix};
 pub use list::list_table;
 pub use pairs::{apply_pair, compose_pairs, reverse_pair, PAIR_SIZE};
 pub use parent_child::parent_keys_in_child_range;
 pub use plain_cut::{plain_cut, PlainCut};
-pub use range_prefix::{pivot_lcp, range_prefix};
+pub use range_prefix::range_prefix;
 pub use record::{Edge, Element, MAX_LEN, RECORD_SIZE};
 pub use refusal::Refusal;
 pub use renaming::{translate_edges, translate_pivot_pair, translate_pivots};
 pub use table::{MAX_PIVOTS, MIN_PIVOTS};
-pub use table_calls::{
+pub use tables::{
     bounded_key, contains_all_keys, contains_range, cutoff_for_left, cutoff_for_right, get_key,
     init_pivot_table, pivot_insertable, route, valid_left_cut_off_key, wf_edges, wf_pivots,
 };
 pub use translation::{translate, translate_key};
-pub use upper_bound::{shortest_uncommon_prefix, upper_bound};
+pub use upper_bound::upper_bound;

@@ -2,7 +2,7 @@
 use crate::record::{Edge, Element, RECORD_SIZE};
 use crate::refusal::Refusal;
 use crate::table::Pivots;
-use crate::table_calls::table_and_key;
+use crate::tables::table_and_key;
 
 /// "Keys are lower-case hexadecimal" and "ε is `-`".
 fn key_text(key: &[u8]) -> String {

@@ -3,9 +3,12 @@ use crate::image::Image;
 use crate::record::{short, MAX_LEN};
 use crate::refusal::{refuse_if, Refusal};
 
-pub const PAIR_SIZE: usize = 5 + 2 * MAX_LEN;
+/// Behind the flag, the lengths of both prefixes, in two bytes each; then the prefixes.
+const OLD_LENGTH_AT: usize = 1;
+const NEW_LENGTH_AT: usize = 3;
 const OLD_AT: usize = 5;
 const NEW_AT: usize = OLD_AT + MAX_LEN;
+pub const PAIR_SIZE: usize = NEW_AT + MAX_LEN;
 
 type PairRecord = [u8; PAIR_SIZE];
 
@@ -46,8 +49,8 @@ fn read(record: &PairRecord) -> Result<Option<Pair<'_>>, Refusal> {
     match record[0] {
         0 => Ok(None),
         1 => Ok(Some(Pair {
-            old: prefix(OLD_AT, length(1))?,
-            new: prefix(NEW_AT, length(3))?,
+            old: prefix(OLD_AT, length(OLD_LENGTH_AT))?,
+            new: prefix(NEW_AT, length(NEW_LENGTH_AT))?,
         })),
         _ => Err(Refusal::Malformed),
     }
@@ -65,8 +68,8 @@ fn put_images(prefixes: Option<[Image; 2]>, dest: &mut [u8]) -> Result<bool, Ref
         return Ok(false);
     };
     record[0] = 1;
-    record[1..3].copy_from_slice(&(old.len() as u16).to_be_bytes());
-    record[3..5].copy_from_slice(&(new.len() as u16).to_be_bytes());
+    record[OLD_LENGTH_AT..NEW_LENGTH_AT].copy_from_slice(&(old.len() as u16).to_be_bytes());
+    record[NEW_LENGTH_AT..OLD_AT].copy_from_slice(&(new.len() as u16).to_be_bytes());
     old.put(&mut record[OLD_AT..])?;
     new.put(&mut record[NEW_AT..])?;
     Ok(true)

@@ -3,7 +3,7 @@
 use crate::record::{short, Edge, Element};
 use crate::refusal::{refuse_if, Refusal};
 use crate::table::Pivots;
-use crate::table_calls::table_and_key;
+use crate::tables::table_and_key;
 
 /// What the plain cut leaves.
 #[derive(Debug, PartialEq, Eq)]

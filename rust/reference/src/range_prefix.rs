@@ -1,6 +1,5 @@
 //! The prefix of a range: PivotLcp.
-use crate::record::{element, one_record, short, Element};
-use crate::refusal::Refusal;
+use crate::record::Element;
 
 fn run_of_ff(bytes: &[u8]) -> usize {
     bytes.iter().take_while(|&&b| b == 0xFF).count()
@@ -20,12 +19,6 @@ pub fn range_prefix<'a>(left: &'a [u8], right: Element) -> &'a [u8] {
         }
         _ => &left[..common],
     }
-}
-
-/// The prefix of the range from a left key up to a right element.
-pub fn pivot_lcp<'a>(left: &'a [u8], right: &[u8]) -> Result<&'a [u8], Refusal> {
-    let right = one_record(right)?;
-    Ok(range_prefix(short(left)?, element(right)?))
 }
 
 #[cfg(test)]
@@ -50,11 +43,5 @@ mod tests {
     #[test]
     fn ff_has_no_next_byte() {
         assert_eq!(range_prefix(&[0xFF, 0xFF], Element::Key(&[0])), []);
-    }
-
-    #[test]
-    fn shape_of_right_before_length_of_left() {
-        assert_eq!(pivot_lcp(&[0; 65], &[0; 65]), Err(Refusal::Shape));
-        assert_eq!(pivot_lcp(&[0; 65], &[0; 66]), Err(Refusal::Malformed));
     }
 }

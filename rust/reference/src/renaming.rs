@@ -3,7 +3,7 @@ use crate::image::Image;
 use crate::record::{element, one_record, put_all, short, Edge, Element, RECORD_SIZE};
 use crate::refusal::{refuse_if, Refusal};
 use crate::table::{pivot_records, read_pivots, Pivots};
-use crate::table_calls::table_and_key;
+use crate::tables::table_and_key;
 use crate::upper_bound::upper_bound;
 
 /// The bounds of a range under another prefix.

@@ -3,7 +3,7 @@ use crate::pairs::{apply, put, Pair};
 use crate::record::{Edge, Element};
 use crate::refusal::Refusal;
 use crate::table::Pivots;
-use crate::table_calls::table_and_key;
+use crate::tables::table_and_key;
 
 /// "The prefix of the slot's range is changed to the slot's edge." No edge: the absent pair.
 /// Cause 5.

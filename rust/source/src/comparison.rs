@@ -179,13 +179,13 @@ mod tests {
 
     #[test]
     fn a_produced_key_past_the_limit_is_8() {
-        let long = "41".repeat(65);
+        let long = "41".repeat(MAX_LEN + 1);
         let said = [long.as_str()];
         assert_eq!(expected("TranslateKey", 0, &said), Err(8));
         assert_eq!(expected("TranslatePivots", 9, &said), Err(8));
         assert_eq!(expected("TranslatePivots", 7, &said), Err(7));
         assert_eq!(expected("TranslatePivots", 9, &["41"]), Err(9));
-        let limit = "41".repeat(64);
+        let limit = "41".repeat(MAX_LEN);
         assert_eq!(expected("TranslateKey", 0, &[&limit]), Ok(limit.clone()));
     }
 

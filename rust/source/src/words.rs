@@ -134,8 +134,8 @@ mod tests {
 
     #[test]
     fn records_are_read_back() {
-        let long = "41".repeat(65);
-        let words = [".", "41", "max", "-", &"ff".repeat(64)];
+        let long = "41".repeat(MAX_LEN + 1);
+        let words = [".", "41", "max", "-", &"ff".repeat(MAX_LEN)];
         let bytes = records(&words);
         assert_eq!(bytes.len(), 5 * RECORD_SIZE);
         assert_eq!(of_records(&bytes), words.join(" "));

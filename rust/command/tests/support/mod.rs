@@ -4,6 +4,7 @@
 pub mod shown;
 
 use command::{run, Streams};
+use joistdenim::MAX_PIVOTS;
 use std::ffi::OsString;
 use std::fs;
 use std::path::{Path, PathBuf};
@@ -189,7 +190,9 @@ pub fn shell(line: &str, folder: &Path) -> Output {
 pub fn folder() -> Folder {
     let folder = Folder::new();
     folder.with("t.table", table(SHORT_T));
-    let lines: String = (0..63).map(|i| format!("41{i:02x} -\n")).collect();
+    let lines: String = (0..MAX_PIVOTS - 1)
+        .map(|i| format!("41{i:02x} -\n"))
+        .collect();
     folder.with("large.table", table(&format!("{lines}42\n")));
     folder
 }

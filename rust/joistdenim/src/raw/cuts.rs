@@ -1,4 +1,4 @@
-//! The cuts of a table, a new pivot in it, two tables put together, and the translation of a key.
+//! The cuts of a table, and a new pivot in it.
 
 extern "C" {
     /// The call [`split_left`](crate::split_left).
@@ -44,35 +44,5 @@ extern "C" {
         dest_edges: *mut u8,
         dest_edges_len: usize,
         written: *mut u64,
-    ) -> u32;
-
-    /// The call [`join`](crate::join).
-    pub fn jd_join(
-        first_pivots: *const u8,
-        first_pivots_len: usize,
-        first_edges: *const u8,
-        first_edges_len: usize,
-        second_pivots: *const u8,
-        second_pivots_len: usize,
-        second_edges: *const u8,
-        second_edges_len: usize,
-        dest_pivots: *mut u8,
-        dest_pivots_len: usize,
-        dest_edges: *mut u8,
-        dest_edges_len: usize,
-        written: *mut u64,
-    ) -> u32;
-
-    /// The call [`translate_key`](crate::translate_key).
-    pub fn jd_translate_key(
-        pivots: *const u8,
-        pivots_len: usize,
-        edges: *const u8,
-        edges_len: usize,
-        key: *const u8,
-        key_len: usize,
-        dest: *mut u8,
-        dest_len: usize,
-        length: *mut u64,
     ) -> u32;
 }

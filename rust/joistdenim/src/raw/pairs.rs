@@ -1,19 +1,6 @@
-//! Pairs, and the pair of a key in a table.
+//! The calls on pairs.
 
 extern "C" {
-    /// The call [`translate`](crate::translate).
-    pub fn jd_translate(
-        pivots: *const u8,
-        pivots_len: usize,
-        edges: *const u8,
-        edges_len: usize,
-        key: *const u8,
-        key_len: usize,
-        dest_pair: *mut u8,
-        dest_pair_len: usize,
-        there: *mut u64,
-    ) -> u32;
-
     /// The call [`reverse_pair`](crate::reverse_pair).
     pub fn jd_reverse_pair(
         pair: *const u8,

@@ -1,4 +1,4 @@
-//! Pivots and edges under another prefix, and the question of parent and child.
+//! A range, pivots and edges under another prefix.
 
 extern "C" {
     /// The call [`translate_pivot_pair`](crate::translate_pivot_pair).
@@ -40,17 +40,5 @@ extern "C" {
         dest: *mut u8,
         dest_len: usize,
         written: *mut u64,
-    ) -> u32;
-
-    /// The call [`parent_keys_in_child_range`](crate::parent_keys_in_child_range).
-    pub fn jd_parent_keys_in_child_range(
-        parent_pivots: *const u8,
-        parent_pivots_len: usize,
-        parent_edges: *const u8,
-        parent_edges_len: usize,
-        child_pivots: *const u8,
-        child_pivots_len: usize,
-        slot: u64,
-        yes: *mut u64,
     ) -> u32;
 }

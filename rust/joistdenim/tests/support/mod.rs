@@ -28,6 +28,14 @@ pub fn t() -> Table {
     table(LIST_OF_T)
 }
 
+/// Where a record of the list program's input begins, behind the count of the pivots.
+pub const fn record_at(place: usize) -> usize {
+    2 + place * joistdenim::RECORD_SIZE
+}
+
+/// The bytes of T: the count, three pivots and two edges.
+pub const T_SIZE: usize = record_at(5);
+
 /// A key's bytes alone.
 pub fn bytes(text: &str) -> Vec<u8> {
     key(text).as_bytes().to_vec()

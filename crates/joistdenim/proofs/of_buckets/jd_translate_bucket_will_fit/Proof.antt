@@ -1,5 +1,5 @@
 -- `joistdenim::jd_translate_bucket_will_fit` meets its contract.
-use Rattle.joistdenim.proofs.Telling.{passing}
+use Rattle.joistdenim.proofs.Passing.{passing}
 use borrow.Author.Needs.{needs}
 use Rattle.joistdenim.proofs.of_buckets.jd_translate_bucket_will_fit.Statement.{statement}
 use Rattle.joistdenim.proofs.of_buckets.jd_translate_bucket_will_fit.Tie as tie

@@ -1,5 +1,5 @@
 -- `joistdenim::jd_insert_pivot` meets its contract.
-use Rattle.joistdenim.proofs.Telling.{passing}
+use Rattle.joistdenim.proofs.Passing.{passing}
 use borrow.Author.Needs.{needs}
 use Rattle.joistdenim.proofs.of_cuts.jd_insert_pivot.Statement.{statement}
 use Rattle.joistdenim.proofs.of_cuts.jd_insert_pivot.Tie as tie

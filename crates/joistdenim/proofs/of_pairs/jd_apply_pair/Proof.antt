@@ -1,5 +1,5 @@
 -- `joistdenim::jd_apply_pair` meets its contract.
-use Rattle.joistdenim.proofs.Telling.{passing}
+use Rattle.joistdenim.proofs.Passing.{passing}
 use borrow.Author.Needs.{needs}
 use Rattle.joistdenim.proofs.of_pairs.jd_apply_pair.Statement.{statement}
 use Rattle.joistdenim.proofs.of_pairs.jd_apply_pair.Tie as tie

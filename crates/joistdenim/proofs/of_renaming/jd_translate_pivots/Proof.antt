@@ -1,5 +1,5 @@
 -- `joistdenim::jd_translate_pivots` meets its contract.
-use Rattle.joistdenim.proofs.Telling.{passing}
+use Rattle.joistdenim.proofs.Passing.{passing}
 use borrow.Author.Needs.{needs}
 use Rattle.joistdenim.proofs.of_renaming.jd_translate_pivots.Statement.{statement}
 use Rattle.joistdenim.proofs.of_renaming.jd_translate_pivots.Tie as tie

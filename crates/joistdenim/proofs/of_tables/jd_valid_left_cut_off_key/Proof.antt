@@ -1,5 +1,5 @@
 -- `joistdenim::jd_valid_left_cut_off_key` meets its contract.
-use Rattle.joistdenim.proofs.Telling.{passing}
+use Rattle.joistdenim.proofs.Passing.{passing}
 use borrow.Author.Needs.{needs}
 use Rattle.joistdenim.proofs.of_tables.jd_valid_left_cut_off_key.Statement.{statement}
 use Rattle.joistdenim.proofs.of_tables.jd_valid_left_cut_off_key.Tie as tie
