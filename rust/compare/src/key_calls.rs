@@ -22,10 +22,10 @@ pub static COMPARE: Call = call(
     "compare",
     &[("a", Kind::Record), ("b", Kind::Record)],
     |_, lent| lend!(lent, raw::jd_compare, a, b;),
-    |asked, _, number| {
+    |asked, _, numbers| {
         let [a, b] = asked.all();
         let order = reference::compare(a, b);
-        tell(order.map(|order| order as i64 as u64), number)
+        tell(order.map(|order| order as i64 as u64), numbers)
     },
 );
 
@@ -33,14 +33,14 @@ pub static PIVOT_KEY: Call = call(
     "pivot_key",
     &[("record", Kind::Record)],
     |_, lent| lend!(lent, raw::jd_pivot_key, record;),
-    |asked, _, number| count(length(reference::pivot_key(asked.slices[0])), number),
+    |asked, _, numbers| count(length(reference::pivot_key(asked.slices[0])), numbers),
 );
 
 pub static ENTRY_KEY: Call = call(
     "entry_key",
     &[("entry", Kind::Entry)],
     |_, lent| lend!(lent, raw::jd_entry_key, entry;),
-    |asked, _, number| count(length(reference::entry_key(asked.slices[0])), number),
+    |asked, _, numbers| count(length(reference::entry_key(asked.slices[0])), numbers),
 );
 
 pub static CHANGE_PREFIX: Call = Call {
@@ -50,9 +50,9 @@ pub static CHANGE_PREFIX: Call = Call {
         "change_prefix",
         &[("key", Kind::Key), ("old", Kind::Key), ("new", Kind::Key)],
         |_, lent| lend!(lent, raw::jd_change_prefix, key, old, new; dest),
-        |asked, [dest, _], number| {
+        |asked, [dest, _], numbers| {
             let [key, old, new] = asked.all();
-            count(reference::change_prefix(key, old, new, dest), number)
+            count(reference::change_prefix(key, old, new, dest), numbers)
         },
     )
 };
@@ -61,9 +61,9 @@ pub static PIVOT_LCP: Call = call(
     "pivot_lcp",
     &[("left", Kind::Key), ("right", Kind::Record)],
     |_, lent| lend!(lent, raw::jd_pivot_lcp, left, right;),
-    |asked, _, number| {
+    |asked, _, numbers| {
         let [left, right] = asked.all();
-        count(length(reference::pivot_lcp(left, right)), number)
+        count(length(reference::pivot_lcp(left, right)), numbers)
     },
 );
 
@@ -74,9 +74,9 @@ pub static SHORTEST_UNCOMMON_PREFIX: Call = Call {
         "shortest_uncommon_prefix",
         &[("prefix", Kind::Key)],
         |_, lent| lend!(lent, raw::jd_shortest_uncommon_prefix, prefix; dest),
-        |asked, [dest, _], number| {
+        |asked, [dest, _], numbers| {
             let written = reference::shortest_uncommon_prefix(asked.slices[0], dest);
-            count(written, number)
+            count(written, numbers)
         },
     )
 };

@@ -28,27 +28,16 @@ mod parent_child;
 mod random;
 mod range_prefixes;
 mod renaming;
-mod rows;
+mod run;
 mod table_inputs;
 mod tables;
 mod told;
 mod upper_bounds;
+mod vectors;
 mod wrapper;
 
-use command::EveryTable;
-use group::{test, Group, Test};
-use std::panic::{catch_unwind, AssertUnwindSafe};
+use group::{test, Test};
 use std::process::ExitCode;
-
-fn tests_by_hand() -> Vec<Test> {
-    vec![
-        test("rows 1 to 7: range prefix", rows::range_prefixes),
-        test("rows 8 to 10: upper bound", rows::upper_bounds),
-        test("orders by hand", rows::orders),
-        test("keys of 64 and 65 bytes", rows::key_limits),
-        test("produced keys of 64 and 65 bytes", rows::changes),
-    ]
-}
 
 fn tests_of_one_call() -> Vec<Test> {
     vec![
@@ -95,14 +84,8 @@ fn tests_of_every_call() -> Vec<Test> {
 }
 
 fn main() -> ExitCode {
-    let (mut passed, mut failed) = (0, 0);
-    let mut count = |has_passed| match has_passed {
-        true => passed += 1,
-        false => failed += 1,
-    };
-    let mut every_table = EveryTable::default();
     let tests = [
-        tests_by_hand(),
+        vectors::tests(),
         tests_of_one_call(),
         tests_of_every_call(),
         tables::tests(),
@@ -117,15 +100,15 @@ fn main() -> ExitCode {
         list::tests(),
         command::tests(),
     ];
-    for test in tests.into_iter().flatten() {
-        let mut group = Group::default();
-        if catch_unwind(AssertUnwindSafe(|| (test.body)(&mut group))).is_err() {
-            group.fail("it stopped by a panic");
+    let tests: Vec<_> = tests.into_iter().flatten().collect();
+    let (mut passed, mut failed) = (0, 0);
+    run::all(&tests, |line| {
+        println!("{}", line.text);
+        match line.passed {
+            true => passed += 1,
+            false => failed += 1,
         }
-        every_table.of(&group);
-        count(group.report(&test.name));
-    }
-    count(every_table.report());
+    });
     println!("{passed} passed, {failed} failed");
     ExitCode::from(u8::from(failed > 0))
 }

@@ -30,10 +30,10 @@ pub static SPLIT_LEFT: Call = Call {
         "split_left",
         &[PIVOTS, EDGES, KEY],
         |_, lent| lend!(lent, raw::jd_split_left, pivots, edges, key; dest_pivots, dest_edges),
-        |asked, [dest_pivots, dest_edges], number| {
+        |asked, [dest_pivots, dest_edges], numbers| {
             let [pivots, edges, key] = asked.all();
             let written = reference::split_left(pivots, edges, key, dest_pivots, dest_edges);
-            count(written, number)
+            count(written, numbers)
         },
     )
 };
@@ -45,10 +45,10 @@ pub static SPLIT_RIGHT: Call = Call {
         "split_right",
         &[PIVOTS, EDGES, KEY],
         |_, lent| lend!(lent, raw::jd_split_right, pivots, edges, key; dest_pivots, dest_edges),
-        |asked, [dest_pivots, dest_edges], number| {
+        |asked, [dest_pivots, dest_edges], numbers| {
             let [pivots, edges, key] = asked.all();
             let written = reference::split_right(pivots, edges, key, dest_pivots, dest_edges);
-            count(written, number)
+            count(written, numbers)
         },
     )
 };
@@ -60,10 +60,10 @@ pub static INSERT_PIVOT: Call = Call {
         "insert_pivot",
         &[PIVOTS, EDGES, KEY],
         |_, lent| lend!(lent, raw::jd_insert_pivot, pivots, edges, key; dest_pivots, dest_edges),
-        |asked, [dest_pivots, dest_edges], number| {
+        |asked, [dest_pivots, dest_edges], numbers| {
             let [pivots, edges, key] = asked.all();
             let written = reference::insert_pivot(pivots, edges, key, dest_pivots, dest_edges);
-            count(written, number)
+            count(written, numbers)
         },
     )
 };
@@ -75,9 +75,9 @@ pub static TRANSLATE_KEY: Call = Call {
         "translate_key",
         &[PIVOTS, EDGES, KEY],
         |_, lent| lend!(lent, raw::jd_translate_key, pivots, edges, key; dest),
-        |asked, [dest, _], number| {
+        |asked, [dest, _], numbers| {
             let [pivots, edges, key] = asked.all();
-            count(reference::translate_key(pivots, edges, key, dest), number)
+            count(reference::translate_key(pivots, edges, key, dest), numbers)
         },
     )
 };
@@ -89,9 +89,9 @@ pub static TRANSLATE: Call = Call {
         "translate",
         &[PIVOTS, EDGES, KEY],
         |_, lent| lend!(lent, raw::jd_translate, pivots, edges, key; dest_pair),
-        |asked, [dest, _], number| {
+        |asked, [dest, _], numbers| {
             let [pivots, edges, key] = asked.all();
-            yes(reference::translate(pivots, edges, key, dest), number)
+            yes(reference::translate(pivots, edges, key, dest), numbers)
         },
     )
 };
