@@ -1,7 +1,7 @@
-//! Groups for the cuts and for a new pivot, and for the translation of a key and the pair of its
-//! slot.
+//! Groups for the cuts and for a new pivot.
 pub mod calls;
 pub mod inputs;
+mod insertion;
 pub mod random;
 pub mod records;
 pub mod small;
@@ -22,12 +22,14 @@ pub fn tests() -> Vec<Test> {
         }),
     ];
     tests.extend(calls::CALLS.into_iter().flat_map(tests_of));
+    tests.extend(insertion::tests());
     tests
 }
 
 type Body = fn(&mut Group, &Call);
 
-fn tests_of(call: &'static Call) -> Vec<Test> {
+/// The groups of any call that is lent a table and a key.
+pub fn tests_of(call: &'static Call) -> Vec<Test> {
     let bodies: [(&str, Body); 11] = [
         ("counts", faults::counts),
         ("faults", faults::each_place),

@@ -98,6 +98,11 @@ impl Group {
         self.tables.inputs()
     }
 
+    /// What is said of the first case that failed, after which none is run.
+    pub fn failure(&mut self) -> Option<&mut String> {
+        self.failure.as_mut()
+    }
+
     pub fn fail(&mut self, text: &str) {
         self.failure.get_or_insert_with(|| text.to_string());
     }

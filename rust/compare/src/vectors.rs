@@ -4,7 +4,7 @@ use crate::asked::{Asked, MOST_DESTS};
 use crate::call::Call;
 use crate::group::{test, Group, Test, Wanted};
 use crate::{
-    buckets, cuts, index, joining, key_calls, list, pairs, parent_child, renaming, tables,
+    buckets, cuts, index, joining, keys, list, pairs, parent_child, renaming, tables, translation,
 };
 use vectors::{Case, Outcome};
 
@@ -20,12 +20,13 @@ pub fn tests() -> Vec<Test> {
     tests
 }
 
-static CALLS: [&[&Call]; 11] = [
-    &key_calls::CALLS,
+static CALLS: [&[&Call]; 12] = [
+    &keys::calls::CALLS,
     &tables::calls::OF_PIVOTS,
     &[&tables::calls::INIT_PIVOT_TABLE],
     &cuts::calls::CALLS,
     &[&joining::calls::JOIN],
+    &translation::calls::CALLS,
     &pairs::calls::CALLS,
     &renaming::calls::CALLS,
     &[&parent_child::calls::PARENT_KEYS_IN_CHILD_RANGE],
@@ -41,13 +42,14 @@ fn calls() -> impl Iterator<Item = &'static Call> {
 fn of_topic(group: &mut Group, topic: &str) {
     for case in vectors::cases(topic) {
         let call = calls().find(|call| call.name == case.call);
-        let fits = call.filter(|call| fits(call, &case));
-        group.check(fits.is_some(), || {
-            let (line, call) = (case.line, &case.call);
-            format!("line {line}: {call} isn't a call, or isn't lent so much")
-        });
-        if let Some(call) = fits {
-            expect(group, call, &case);
+        match call.filter(|call| fits(call, &case)) {
+            Some(call) => expect(group, call, &case),
+            None => group.fail("no such call, or it isn't lent so much"),
+        }
+        if let Some(text) = group.failure() {
+            let (line, name) = (case.line, &case.name);
+            text.insert_str(0, &format!("line {line}, {name}: "));
+            return;
         }
     }
 }

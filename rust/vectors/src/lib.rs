@@ -4,6 +4,8 @@
 
 mod expression;
 mod line;
+#[cfg(test)]
+mod tests;
 
 use std::fs;
 use std::path::{Path, PathBuf};

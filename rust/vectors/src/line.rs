@@ -49,6 +49,9 @@ impl Reader {
             return Ok(());
         }
         let (name, text) = line.split_once(" : ").ok_or("a line of no sort")?;
+        if self.calls.is_empty() {
+            return Err("no call above it".to_string());
+        }
         let runs = self.runs(number, name, text)?;
         self.cases.extend(runs);
         Ok(())

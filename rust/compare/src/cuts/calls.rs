@@ -1,20 +1,12 @@
-//! The cuts, a new pivot, the translation of a key and the pair of a key's slot, in the archive and
-//! in the reference.
+//! The cuts and a new pivot, in the archive and in the reference.
 use crate::asked::Asked;
-use crate::call::{bytes, call, Call};
+use crate::call::{call, Call};
 use crate::lent::lend;
-use crate::pair_inputs::PAIR_SIZE;
 use crate::tables::calls::{EDGES, KEY, PIVOTS};
-use crate::told::{count, yes};
+use crate::told::count;
 use joistdenim::raw;
 
-pub static CALLS: [&Call; 5] = [
-    &SPLIT_LEFT,
-    &SPLIT_RIGHT,
-    &INSERT_PIVOT,
-    &TRANSLATE_KEY,
-    &TRANSLATE,
-];
+pub static CALLS: [&Call; 3] = [&SPLIT_LEFT, &SPLIT_RIGHT, &INSERT_PIVOT];
 
 pub const DESTS: &[&str] = &["dest_pivots", "dest_edges"];
 
@@ -64,34 +56,6 @@ pub static INSERT_PIVOT: Call = Call {
             let [pivots, edges, key] = asked.all();
             let written = reference::insert_pivot(pivots, edges, key, dest_pivots, dest_edges);
             count(written, numbers)
-        },
-    )
-};
-
-pub static TRANSLATE_KEY: Call = Call {
-    dests: &["dest"],
-    written: bytes,
-    ..call(
-        "translate_key",
-        &[PIVOTS, EDGES, KEY],
-        |_, lent| lend!(lent, raw::jd_translate_key, pivots, edges, key; dest),
-        |asked, [dest, _], numbers| {
-            let [pivots, edges, key] = asked.all();
-            count(reference::translate_key(pivots, edges, key, dest), numbers)
-        },
-    )
-};
-
-pub static TRANSLATE: Call = Call {
-    dests: &["dest_pair"],
-    written: |_, _| [PAIR_SIZE, 0],
-    ..call(
-        "translate",
-        &[PIVOTS, EDGES, KEY],
-        |_, lent| lend!(lent, raw::jd_translate, pivots, edges, key; dest_pair),
-        |asked, [dest, _], numbers| {
-            let [pivots, edges, key] = asked.all();
-            yes(reference::translate(pivots, edges, key, dest), numbers)
         },
     )
 };

@@ -1,7 +1,7 @@
 //! Groups for compare.
+use super::calls::COMPARE;
 use crate::group::Group;
 use crate::inputs::{counted, field_record, record, small_keys, MAX, NO_EDGE};
-use crate::key_calls::COMPARE;
 
 pub fn all_pairs(group: &mut Group) {
     let records: Vec<_> = small_keys(4).iter().map(|key| record(key)).collect();

@@ -1,7 +1,7 @@
 //! Groups for shortest_uncommon_prefix.
+use super::calls::SHORTEST_UNCOMMON_PREFIX;
 use crate::group::Group;
 use crate::inputs::small_keys;
-use crate::key_calls::SHORTEST_UNCOMMON_PREFIX;
 
 fn each_dest(group: &mut Group, prefix: &[u8]) {
     for dest in [0, 65, 66, 67] {

@@ -1,8 +1,8 @@
 //! Groups for records: every length field, with a zero tail and with one byte that isn't zero at
 //! each of the 64 places.
+use super::calls::{COMPARE, ENTRY_KEY, PIVOT_KEY, PIVOT_LCP};
 use crate::group::Group;
 use crate::inputs::{entry, field_record, record, Record};
-use crate::key_calls::{COMPARE, ENTRY_KEY, PIVOT_KEY, PIVOT_LCP};
 
 fn each_record(mut body: impl FnMut(&Record)) {
     for field in 0..=u16::MAX {

@@ -1,7 +1,7 @@
 //! Groups for change_prefix.
+use super::calls::CHANGE_PREFIX;
 use crate::group::Group;
 use crate::inputs::{counted, small_keys};
-use crate::key_calls::CHANGE_PREFIX;
 
 const NEW_LENGTHS: [usize; 8] = [0, 1, 60, 61, 62, 63, 64, 65];
 

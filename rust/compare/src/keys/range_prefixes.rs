@@ -1,7 +1,7 @@
 //! Groups for pivot_lcp.
+use super::calls::PIVOT_LCP;
 use crate::group::Group;
 use crate::inputs::{counted, field_record, record, small_keys, MAX};
-use crate::key_calls::PIVOT_LCP;
 
 pub fn all_pairs(group: &mut Group) {
     let keys = small_keys(4);

@@ -1,5 +1,4 @@
-//! Groups for a key that is put in as a pivot: by hand, large tables and laws. Those that it has in
-//! common with the cuts run there.
+//! Groups for a key that is put in as a pivot alone: large tables and laws.
 mod large;
 mod laws;
 
