@@ -26,17 +26,6 @@ static inline slice entry(slice r, unsigned number)
     return (slice){e, JD_ENTRY_SIZE};
 }
 
-/* So many entries with this record, numbered from 0. The last 2 such buckets stand side by side. */
-static inline slice many(size_t count, slice r)
-{
-    static uint8_t buckets[2][BUCKET_ROOM];
-    static unsigned next;
-    uint8_t *b = buckets[next++ % 2];
-    for (size_t i = 0; i < count; i++)
-        put_entry(b + i * JD_ENTRY_SIZE, r, (unsigned)i);
-    return (slice){b, count * JD_ENTRY_SIZE};
-}
-
 static uint8_t bucket_room[GUARD + BUCKET_ROOM + GUARD];
 
 /* What is kept of a bucket under another prefix, in a destination of this length. */

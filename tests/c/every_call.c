@@ -1,9 +1,9 @@
 /*
  * Each function on single keys from C: a normal case, each of its refusals, and which refusal
  * comes first where two apply. Around every destination stand bytes that must not change. Then a
- * key's way through a table: cuts, a new pivot, the halves joined and translations, whose refusals
- * are in cuts.c, insert.c and join.c. Then pairs, renamed pivots and edges, parent and child, a
- * bucket, its index and a list; more is in pairs.c, renaming.c, buckets.c, index.c and list.c.
+ * key's way through a table: cuts, a new pivot, the halves joined and translations; then pairs,
+ * renamed pivots and edges, parent and child, a bucket, its index and a list. Many more cases, of
+ * these calls too, are in vectors, which vectors.c runs.
  */
 #include "index.h"
 #include "pair.h"

@@ -43,11 +43,7 @@ typedef struct {
 static const drawer_lengths roomy = {BUCKET_ROOM, INDEX_ROOM};
 static const drawers unwritten = {{long_bytes, 0}, {long_bytes, 0}};
 
-static const drawer_lengths rooms[] = {{BUCKET_ROOM, INDEX_ROOM}, {0, 0}};
-
 static uint8_t index_room[GUARD + INDEX_ROOM + GUARD];
-
-static const prefixes a_to_c = {{(const uint8_t *)"A", 1}, {(const uint8_t *)"C", 1}};
 
 /* Two entries in each slot of T, one of them at its left pivot. */
 static inline slice four(void)
@@ -59,17 +55,6 @@ static inline slice four(void)
 static inline indexed of_t(void)
 {
     return (indexed){pivots_of_t(), four(), PLACES(0, 2, 4)};
-}
-
-/* So many entries whose keys are A and their number in two bytes. */
-static inline slice numbered(size_t count)
-{
-    static uint8_t bucket[BUCKET_ROOM];
-    for (unsigned i = 0; i < count; i++) {
-        const uint8_t k[] = {'A', (uint8_t)(i >> 8), (uint8_t)i};
-        put_entry(bucket + i * JD_ENTRY_SIZE, key((slice){k, 3}), i);
-    }
-    return (slice){bucket, count * JD_ENTRY_SIZE};
 }
 
 /* The entries of a bucket between two places. */

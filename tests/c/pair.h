@@ -44,19 +44,6 @@ static inline slice pair_with(slice pair, size_t place, unsigned byte)
     return (slice){p, JD_PAIR_SIZE};
 }
 
-/* A pair with other bytes wherever nothing is looked at. */
-static inline slice rubbish(slice pair)
-{
-    uint8_t *p = next_pair(pair);
-    if (p[0] == 0) {
-        memset(p + 1, 0xff, JD_PAIR_SIZE - 1);
-    } else {
-        memset(p + OLD_AT + p[2], 'A', JD_MAX_LEN - p[2]);
-        memset(p + NEW_AT + p[4], 0xff, JD_MAX_LEN - p[4]);
-    }
-    return (slice){p, JD_PAIR_SIZE};
-}
-
 /* A call that writes a pair answers whether it is there; one that is refused writes nothing. */
 static inline void pair_left(const char *name, uint32_t got, uint64_t number, uint32_t wanted,
                              slice written)

@@ -1,22 +1,11 @@
 /*
- * What the C programs on renamed pivots and edges share: new prefixes, and the calls, into
- * destinations between bytes that must not change.
+ * What the C programs on renamed pivots and edges share: the calls, into destinations between bytes
+ * that must not change.
  */
 #ifndef RENAMING_H
 #define RENAMING_H
 
 #include "table.h"
-
-/* This many bytes of 'C', and these after them. */
-static inline slice after_c(size_t length, const char *more)
-{
-    static uint8_t keys[8][JD_MAX_LEN];
-    static unsigned next;
-    uint8_t *k = keys[next++ % 8];
-    memset(k, 'C', length);
-    memcpy(k + length, more, strlen(more));
-    return (slice){k, length + strlen(more)};
-}
 
 static inline uint8_t *fresh_records(void)
 {

@@ -1,6 +1,6 @@
 /*
- * What the C programs on tables share: tables of records, good and bad, and cuts, joins and lists
- * of them into destinations between bytes that must not change.
+ * What the C programs on tables share: tables of records, and cuts, joins and lists of them into
+ * destinations between bytes that must not change.
  */
 #ifndef TABLE_H
 #define TABLE_H
@@ -30,33 +30,6 @@ static inline slice table(const slice *records, size_t count)
     return (slice){t, length};
 }
 
-/* This many rising pivots, of one byte each. */
-static inline slice rising(size_t count)
-{
-    uint8_t *t = next_table();
-    for (size_t i = 0; i < count; i++)
-        put(t + i * JD_RECORD_SIZE, 1, (slice){(const uint8_t[]){(uint8_t)(i + 1)}, 1});
-    return (slice){t, count * JD_RECORD_SIZE};
-}
-
-/* This many absent edges. */
-static inline slice absent(size_t count)
-{
-    uint8_t *t = next_table();
-    for (size_t i = 0; i < count; i++)
-        put(t + i * JD_RECORD_SIZE, JD_NO_EDGE, none);
-    return (slice){t, count * JD_RECORD_SIZE};
-}
-
-/* This many edges, each of these bytes. */
-static inline slice alike(size_t length, slice edge)
-{
-    uint8_t *t = next_table();
-    for (size_t i = 0; i < length; i++)
-        put(t + i * JD_RECORD_SIZE, (unsigned)edge.length, edge);
-    return (slice){t, length * JD_RECORD_SIZE};
-}
-
 /* Table T's pivots: A0, A5, B. Its edges are C and none. */
 static inline slice pivots_of_t(void)
 {
@@ -66,17 +39,6 @@ static inline slice pivots_of_t(void)
 static inline slice edges_of_t(void)
 {
     return TABLE(key(BYTES("C")), record(JD_NO_EDGE, none));
-}
-
-/* Pivots that fall, and such with a malformed record at the end. */
-static inline slice falling(void)
-{
-    return TABLE(key(BYTES("B")), key(BYTES("A")), key(BYTES("C")));
-}
-
-static inline slice falling_and_wrong(void)
-{
-    return TABLE(key(BYTES("B")), key(BYTES("A")), record(65, none));
 }
 
 /* ---- cuts and joins */

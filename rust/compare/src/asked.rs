@@ -3,6 +3,12 @@
 /// No call has more destinations.
 pub const MOST_DESTS: usize = 2;
 
+/// No call answers more numbers.
+pub const MOST_NUMBERS: usize = 2;
+
+/// What stands behind the pointers to the answers. A call with one leaves the second alone.
+pub type Numbers = [u64; MOST_NUMBERS];
+
 /// The arguments of one case; a call that has no place or destination doesn't look at it.
 #[derive(Clone, Copy)]
 pub struct Asked<'a> {

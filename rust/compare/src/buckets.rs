@@ -1,6 +1,5 @@
 //! Groups for buckets under another prefix.
-mod by_hand;
-mod calls;
+pub mod calls;
 mod dests;
 mod faults;
 mod laws;
@@ -10,18 +9,12 @@ mod wrapper;
 
 use crate::group::{test, Group, Test};
 use crate::lengths;
-use calls::{TRANSLATE_BUCKET, TRANSLATE_BUCKET_WILL_FIT};
 
 /// A bucket, a prefix and a new prefix.
 pub type Slices<'a> = [&'a [u8]; 3];
 
 pub fn tests() -> Vec<Test> {
     let mut tests = vec![
-        test("buckets by hand", by_hand::buckets),
-        test("buckets: 20 of 500 by hand", by_hand::small_drawers),
-        test("buckets: 0, 512 and 513 entries by hand", by_hand::counts),
-        test("buckets: 64 and 65 bytes produced", by_hand::limits),
-        test("buckets: order of causes by hand", by_hand::order_of_causes),
         test("buckets: all small ones", small::buckets),
         test("buckets: all small ones with wrong records", small::wrong),
         test("buckets: destinations of every length", small::destinations),
@@ -33,7 +26,7 @@ pub fn tests() -> Vec<Test> {
         test("buckets: every byte", faults::every_byte),
         test("wrapper: buckets", wrapper::buckets),
     ];
-    for call in [&TRANSLATE_BUCKET, &TRANSLATE_BUCKET_WILL_FIT] {
+    for call in calls::CALLS {
         let name = format!("{}: every length", call.name);
         tests.push(test(name, |group| lengths::every_length(group, call)));
     }

@@ -1,5 +1,5 @@
 //! A call in both implementations, and what it leaves.
-use crate::asked::{Asked, MOST_DESTS};
+use crate::asked::{Asked, Numbers, MOST_DESTS};
 use crate::inputs::ENTRY_SIZE;
 use crate::lent::{is_as_before, Lent};
 use std::fmt;
@@ -31,11 +31,11 @@ pub struct Call {
     pub takes_place: bool,
     /// The destinations, none to two, after the slices.
     pub dests: &'static [&'static str],
-    /// How many bytes it writes to each where this is its answer to what was asked.
+    /// How many bytes it writes to each where this is its first answer to what was asked.
     pub written: fn(&Asked, u64) -> [usize; MOST_DESTS],
     pub archive: fn(&Asked, &mut Lent) -> u32,
-    /// As C does it: the status returned, the destinations and the number changed in place.
-    pub reference: fn(&Asked, Dests, &mut u64) -> u32,
+    /// As C does it: the status returned, the destinations and the numbers changed in place.
+    pub reference: fn(&Asked, Dests, &mut Numbers) -> u32,
 }
 
 /// A call without a place and destinations.
@@ -43,7 +43,7 @@ pub const fn call(
     name: &'static str,
     arguments: &'static [(&'static str, Kind)],
     archive: fn(&Asked, &mut Lent) -> u32,
-    reference: fn(&Asked, Dests, &mut u64) -> u32,
+    reference: fn(&Asked, Dests, &mut Numbers) -> u32,
 ) -> Call {
     Call {
         name,
@@ -75,7 +75,7 @@ pub type Dests<'a> = [&'a mut [u8]; MOST_DESTS];
 /// What a call returned and left.
 pub struct Seen<'a> {
     pub status: u32,
-    pub number: u64,
+    pub numbers: Numbers,
     pub dests: [&'a [u8]; MOST_DESTS],
 }
 
@@ -91,9 +91,11 @@ impl fmt::Display for Hex<'_> {
 impl fmt::Display for Seen<'_> {
     fn fmt(&self, f: &mut fmt::Formatter<'_>) -> fmt::Result {
         write!(f, "returned {}", self.status)?;
-        match self.number {
-            number if is_as_before(number) => write!(f, ", number as it was")?,
-            number => write!(f, ", number {}", number as i64)?,
+        for number in self.numbers {
+            match is_as_before(number) {
+                true => write!(f, ", number as it was")?,
+                false => write!(f, ", number {}", number as i64)?,
+            }
         }
         let [first, second] = self.dests;
         write!(f, ", left {}", Hex(first))?;

@@ -10,7 +10,7 @@ mod show;
 mod values;
 mod wanted;
 
-pub use lists::EveryTable;
+pub use lists::{EveryTable, Seen};
 
 use crate::call::Hex;
 use crate::group::{test, Group, Test};

@@ -1,8 +1,7 @@
-//! Groups for the cuts and for a new pivot, and for the translation of a key and the pair of its
-//! slot.
-mod by_hand;
+//! Groups for the cuts and for a new pivot.
 pub mod calls;
 pub mod inputs;
+mod insertion;
 pub mod random;
 pub mod records;
 pub mod small;
@@ -16,12 +15,6 @@ use crate::tables::faults;
 
 pub fn tests() -> Vec<Test> {
     let mut tests = vec![
-        test("rows 14 and 15: cuts", by_hand::rows),
-        test("cuts of T by hand", by_hand::cuts_of_t),
-        test("cuts: 64 and 65 bytes produced", by_hand::limits),
-        test("keys: 64 and 65 bytes produced", by_hand::key_limits),
-        test("cuts: destinations by hand", by_hand::destinations),
-        test("cuts: order of causes by hand", by_hand::order_of_causes),
         test("wrapper: cuts", wrapper::cuts),
         test("two orders: small tables", two_orders::small),
         test("two orders: random", |group| {
@@ -29,12 +22,14 @@ pub fn tests() -> Vec<Test> {
         }),
     ];
     tests.extend(calls::CALLS.into_iter().flat_map(tests_of));
+    tests.extend(insertion::tests());
     tests
 }
 
 type Body = fn(&mut Group, &Call);
 
-fn tests_of(call: &'static Call) -> Vec<Test> {
+/// The groups of any call that is lent a table and a key.
+pub fn tests_of(call: &'static Call) -> Vec<Test> {
     let bodies: [(&str, Body); 11] = [
         ("counts", faults::counts),
         ("faults", faults::each_place),

@@ -1,5 +1,5 @@
 //! Destinations around what a call writes.
-use crate::asked::{Asked, MOST_DESTS};
+use crate::asked::{Asked, MOST_DESTS, MOST_NUMBERS};
 use crate::call::Call;
 use crate::group::Group;
 
@@ -10,10 +10,10 @@ pub fn dests_around(call: &Call, slices: &[&[u8]]) -> Vec<[usize; MOST_DESTS]> {
     let room = slices.iter().map(|slice| slice.len()).sum::<usize>() + 2 * 66;
     let (mut first, mut second) = (vec![0; room], vec![0; room]);
     let asked = Asked::with_dests(slices, [room; MOST_DESTS]);
-    let mut number = 0;
-    let status = (call.reference)(&asked, [&mut first, &mut second], &mut number);
+    let mut numbers = [0; MOST_NUMBERS];
+    let status = (call.reference)(&asked, [&mut first, &mut second], &mut numbers);
     let [first, second] = match (call.dests.len(), status) {
-        (_, 0) => (call.written)(&asked, number),
+        (_, 0) => (call.written)(&asked, numbers[0]),
         (2, _) => [slices[0].len(), slices[1].len()],
         _ => [slices[slices.len() - 1].len(), 0],
     };

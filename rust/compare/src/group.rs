@@ -1,18 +1,14 @@
 //! A group of cases: one test.
-use crate::asked::{Asked, MOST_DESTS};
+use crate::asked::{Asked, MOST_DESTS, MOST_NUMBERS};
 use crate::call::{Call, Seen};
 use crate::lent::{before, number_before, Lent};
 use crate::lent_tables::LentTables;
 
-/// What is written down by hand for a case.
+/// What is written down for a case.
 pub enum Wanted<'a> {
     Refusal(u32),
-    /// Accepted, with nothing told.
-    Taken,
-    /// The number, and what stands at the head of the destination.
-    Answer(i64, &'a [u8]),
-    /// The number, and what stands at the heads of two destinations.
-    Answers(i64, [&'a [u8]; MOST_DESTS]),
+    /// The numbers, as many as the call has, and what stands at the head of each destination.
+    Answer(&'a [i64], [&'a [u8]; MOST_DESTS]),
 }
 
 #[derive(Default)]
@@ -30,7 +26,7 @@ impl Group {
         self.compare(call, slices, 0);
     }
 
-    /// One case: status, number, every byte of the destinations and around them, and every
+    /// One case: status, numbers, every byte of the destinations and around them, and every
     /// argument must be what the reference leaves.
     pub fn compare(&mut self, call: &Call, slices: &[&[u8]], dest: usize) {
         let place = 0;
@@ -59,16 +55,16 @@ impl Group {
             dest.clear();
             dest.extend_from_slice(before(which, asked.dests[which], salt));
         }
-        let mut number = number_before(salt);
+        let mut numbers = [number_before(salt); MOST_NUMBERS];
         let dests = self.reference.each_mut().map(Vec::as_mut_slice);
         let reference = Seen {
-            status: (call.reference)(asked, dests, &mut number),
-            number,
+            status: (call.reference)(asked, dests, &mut numbers),
+            numbers,
             dests: self.reference.each_ref().map(Vec::as_slice),
         };
         let archive = Seen {
             status,
-            number: self.lent.number(),
+            numbers: self.lent.numbers(),
             dests: self.lent.left_in_dests(),
         };
         let fault = fault(&archive, &reference, wanted, salt)
@@ -102,28 +98,48 @@ impl Group {
         self.tables.inputs()
     }
 
+    /// What is said of the first case that failed, after which none is run.
+    pub fn failure(&mut self) -> Option<&mut String> {
+        self.failure.as_mut()
+    }
+
     pub fn fail(&mut self, text: &str) {
         self.failure.get_or_insert_with(|| text.to_string());
     }
 
-    /// Prints the group's line. A group without a case has failed.
-    pub fn report(&self, name: &str) -> bool {
-        let none = (self.cases == 0).then_some("no case was run");
-        match self.failure.as_deref().or(none) {
-            None => println!("ok {name} ({} cases)", self.cases),
-            Some(text) => println!("FAILED {name}: {text}"),
-        }
-        self.failure.is_none() && self.cases > 0
+    /// The cases of another group as this one's.
+    pub fn take(&mut self, other: Group) {
+        self.cases += other.cases;
+        self.failure = self.failure.take().or(other.failure);
     }
+
+    /// A group without a case has failed.
+    pub fn line(&self, name: &str) -> Line {
+        let none = (self.cases == 0).then_some("no case was run");
+        let failure = self.failure.as_deref().or(none);
+        Line {
+            passed: failure.is_none(),
+            text: match failure {
+                None => format!("ok {name} ({} cases)", self.cases),
+                Some(text) => format!("FAILED {name}: {text}"),
+            },
+        }
+    }
+}
+
+/// What is printed of a group.
+pub struct Line {
+    pub passed: bool,
+    pub text: String,
 }
 
 /// A group's name, and what runs its cases.
 pub struct Test {
     pub name: String,
-    pub body: Box<dyn Fn(&mut Group)>,
+    pub body: Box<dyn Fn(&mut Group) + Send + Sync>,
 }
 
-pub fn test(name: impl Into<String>, body: impl Fn(&mut Group) + 'static) -> Test {
+pub fn test(name: impl Into<String>, body: impl Fn(&mut Group) + Send + Sync + 'static) -> Test {
     Test {
         name: name.into(),
         body: Box::new(body),
@@ -139,26 +155,28 @@ fn fault(
     if archive.status != reference.status {
         return Some("the status differs");
     }
-    if archive.number != reference.number {
-        return Some("the number differs");
+    if archive.numbers != reference.numbers {
+        return Some("a number differs");
     }
     if archive.dests != reference.dests {
         return Some("the destination differs");
     }
     let was = [0, 1].map(|which| before(which, archive.dests[which].len(), salt));
-    if archive.status != 0 && (archive.number != number_before(salt) || archive.dests != was) {
+    let unanswered = number_before(salt);
+    let as_they_were = archive.numbers == [unanswered; MOST_NUMBERS];
+    if archive.status != 0 && !(as_they_were && archive.dests == was) {
         return Some("a refusal changed something");
     }
-    let answered = |number: i64, heads: [&[u8]; MOST_DESTS]| {
-        let accepted = archive.status == 0 && archive.number == number as u64;
-        accepted && (0..MOST_DESTS).all(|i| begins(archive.dests[i], heads[i], was[i]))
-    };
     let as_written_down = match wanted {
         None => true,
         Some(Wanted::Refusal(status)) => archive.status == *status,
-        Some(Wanted::Taken) => archive.status == 0 && archive.number == number_before(salt),
-        Some(Wanted::Answer(number, head)) => answered(*number, [head, &[]]),
-        Some(Wanted::Answers(number, heads)) => answered(*number, *heads),
+        Some(Wanted::Answer(numbers, heads)) => {
+            let numbers = numbers.iter().map(|number| *number as u64);
+            let numbers = numbers.chain(std::iter::repeat(unanswered));
+            archive.status == 0
+                && archive.numbers.into_iter().eq(numbers.take(MOST_NUMBERS))
+                && (0..MOST_DESTS).all(|i| begins(archive.dests[i], heads[i], was[i]))
+        }
     };
     (!as_written_down).then_some("not what is written down")
 }

@@ -1,6 +1,5 @@
 //! Groups for the index beside a bucket.
-mod by_hand;
-mod calls;
+pub mod calls;
 mod faults;
 pub mod inputs;
 mod laws;
@@ -13,12 +12,6 @@ use calls::CALLS;
 
 pub fn tests() -> Vec<Test> {
     let mut tests = vec![
-        test("index: places by hand", by_hand::places),
-        test("index: 512 entries by hand", by_hand::counts),
-        test("index: cuts by hand", by_hand::cuts),
-        test("index: cut keys by hand", by_hand::cut_keys),
-        test("index: drawers renamed by hand", by_hand::drawers),
-        test("index: order of causes by hand", by_hand::order_of_causes),
         test("index: all small ones, built", small::built),
         test("index: all small ones, checked", small::checked),
         test("index: all small ones, slots", small::slots),

@@ -1,6 +1,5 @@
 //! Groups for two tables put together.
-mod by_hand;
-mod calls;
+pub mod calls;
 mod faults;
 mod laws;
 pub mod random;
@@ -13,13 +12,6 @@ use calls::JOIN;
 
 pub fn tests() -> Vec<Test> {
     let mut tests = vec![
-        test("join of T's halves by hand", by_hand::of_t),
-        test("join: all edges in turn by hand", by_hand::edges_in_turn),
-        test("join: meeting pivots by hand", by_hand::meeting),
-        test("join: max meets none, by hand", by_hand::max_meets_none),
-        test("join: 64 and 65 pivots by hand", by_hand::counts),
-        test("join: destinations by hand", by_hand::destinations),
-        test("join: order of causes by hand", by_hand::order_of_causes),
         test("join: small tables split", small::splits),
         test("join: pairs of small tables", small::pairs),
         test("join: small tables, destinations", small::destinations),

@@ -1,6 +1,6 @@
 //! What is lent to one call of the archive, with guard bytes around each slice and around the
-//! number behind the pointer.
-use crate::asked::{Asked, MOST_DESTS};
+//! numbers behind the pointers.
+use crate::asked::{Asked, Numbers, MOST_DESTS, MOST_NUMBERS};
 use std::sync::OnceLock;
 
 const GUARD: usize = 16;
@@ -59,7 +59,8 @@ fn parts<const N: usize>(lent: &mut [Guarded]) -> [Part; N] {
 pub struct Lent {
     slices: [Guarded; MOST_SLICES],
     dests: [Guarded; MOST_DESTS],
-    answer: [u64; 3],
+    /// A guard before the first and after each.
+    answers: [u64; 2 * MOST_NUMBERS + 1],
 }
 
 impl Default for Lent {
@@ -72,7 +73,7 @@ impl Default for Lent {
         Lent {
             slices: std::array::from_fn(|_| empty()),
             dests: std::array::from_fn(|_| empty()),
-            answer: [0; 3],
+            answers: [0; 2 * MOST_NUMBERS + 1],
         }
     }
 }
@@ -85,7 +86,7 @@ impl Lent {
         for (which, dest) in self.dests.iter_mut().enumerate() {
             dest.fill(before(which, asked.dests[which], salt), !salt);
         }
-        self.answer = [number_before(salt); 3];
+        self.answers.fill(number_before(salt));
     }
 
     /// The first slices, as many as the call takes.
@@ -98,13 +99,15 @@ impl Lent {
         parts(&mut self.dests)
     }
 
-    /// The pointer for the answer; to be taken last, after the slices.
-    pub fn answer(&mut self) -> *mut u64 {
-        self.answer[1..].as_mut_ptr()
+    /// The pointers for the first answers, as many as the call has; to be taken last, after the
+    /// slices.
+    pub fn answers<const N: usize>(&mut self) -> [*mut u64; N] {
+        let first = self.answers.as_mut_ptr();
+        std::array::from_fn(|i| first.wrapping_add(2 * i + 1))
     }
 
-    pub fn number(&self) -> u64 {
-        self.answer[1]
+    pub fn numbers(&self) -> Numbers {
+        std::array::from_fn(|i| self.answers[2 * i + 1])
     }
 
     pub fn left_in_dests(&self) -> [&[u8]; MOST_DESTS] {
@@ -116,24 +119,28 @@ impl Lent {
         let mut arguments = self.slices.iter().zip(asked.slices);
         arguments.all(|(lent, content)| lent.content() == *content && lent.is_whole())
             && self.dests.iter().all(Guarded::is_whole)
-            && self.answer[0] == number_before(salt)
-            && self.answer[2] == number_before(salt)
+            && self
+                .answers
+                .iter()
+                .step_by(2)
+                .all(|guard| *guard == number_before(salt))
     }
 }
 
 /// Calls a function of the archive with the slices that are lent and, after the semicolon, the
-/// destinations; after another semicolon with a number.
+/// destinations; after another semicolon with a number. It has one answer.
 macro_rules! lend {
     ($lent:ident, $call:path, $($slice:ident),*; $($dest:ident),* $(; $number:expr)?) => {{
         let [$($slice),*] = $lent.slices();
         let [$($dest),*] = $lent.dests();
+        let [answer] = $lent.answers();
         // SAFETY: `Lent` owns the bytes, each slice is good for its length, and no two overlap.
         unsafe {
             $call(
                 $($slice.at, $slice.len,)*
                 $($dest.at, $dest.len,)*
                 $($number,)?
-                $lent.answer().cast(),
+                answer.cast(),
             )
         }
     }};
@@ -142,7 +149,7 @@ pub(crate) use lend;
 
 const NUMBER_BEFORE: u64 = 0xA5C3_5A3C_9669_7800;
 
-/// What the number behind the pointer is before a call: no answer of any call.
+/// What the number behind a pointer is before a call: no answer of any call.
 pub fn number_before(salt: u8) -> u64 {
     NUMBER_BEFORE | u64::from(salt)
 }

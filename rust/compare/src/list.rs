@@ -1,5 +1,4 @@
 //! Groups for the list of a table.
-pub mod by_hand;
 pub mod calls;
 pub mod dests;
 pub mod laws;
@@ -13,9 +12,6 @@ use calls::LIST_TABLE;
 
 pub fn tests() -> Vec<Test> {
     vec![
-        test("lists: small tables by hand", by_hand::small_tables),
-        test("lists: refused by hand", by_hand::refused),
-        test("lists: the longest text by hand", by_hand::longest),
         test("list_table: lengths", |group| {
             lengths::every_length(group, &LIST_TABLE)
         }),

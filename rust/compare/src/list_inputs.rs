@@ -1,5 +1,5 @@
 //! Inputs of the list.
-use crate::table_inputs::{edges_of_t, pivots_of_t, usual_edges, usual_pivots};
+use crate::table_inputs::{usual_edges, usual_pivots};
 
 /// An input with this count.
 pub fn counted_as(count: u16, pivots: &[u8], edges: &[u8]) -> Vec<u8> {
@@ -9,10 +9,6 @@ pub fn counted_as(count: u16, pivots: &[u8], edges: &[u8]) -> Vec<u8> {
 /// An input with the count of the whole pivots.
 pub fn joined(pivots: &[u8], edges: &[u8]) -> Vec<u8> {
     counted_as((pivots.len() / 66) as u16, pivots, edges)
-}
-
-pub fn input_of_t() -> Vec<u8> {
-    joined(&pivots_of_t(), &edges_of_t())
 }
 
 /// Good and bad inputs: T's list, and texts with 1, 2, 3 and 4.

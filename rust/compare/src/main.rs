@@ -5,110 +5,42 @@ mod asked;
 mod bucket_inputs;
 mod buckets;
 mod call;
-mod changes;
 mod command;
 mod cuts;
 mod dests;
 mod group;
 mod index;
 mod inputs;
-mod insertion;
 mod joining;
-mod key_calls;
+mod keys;
 mod lengths;
 mod lent;
 mod lent_tables;
 mod list;
 mod list_inputs;
-mod malformed;
-mod orders;
 mod pair_inputs;
 mod pairs;
 mod parent_child;
 mod random;
-mod range_prefixes;
 mod renaming;
-mod rows;
+mod run;
 mod table_inputs;
 mod tables;
 mod told;
-mod upper_bounds;
+mod translation;
+mod vectors;
 mod wrapper;
 
-use command::EveryTable;
-use group::{test, Group, Test};
-use std::panic::{catch_unwind, AssertUnwindSafe};
 use std::process::ExitCode;
 
-fn tests_by_hand() -> Vec<Test> {
-    vec![
-        test("rows 1 to 7: range prefix", rows::range_prefixes),
-        test("rows 8 to 10: upper bound", rows::upper_bounds),
-        test("orders by hand", rows::orders),
-        test("keys of 64 and 65 bytes", rows::key_limits),
-        test("produced keys of 64 and 65 bytes", rows::changes),
-    ]
-}
-
-fn tests_of_one_call() -> Vec<Test> {
-    vec![
-        test("compare: all pairs", orders::all_pairs),
-        test("compare: marks", orders::marks),
-        test("compare: first differences", orders::first_differences),
-        test("pivot_lcp: all pairs", range_prefixes::all_pairs),
-        test("pivot_lcp: up to max", range_prefixes::up_to_max),
-        test("pivot_lcp: runs of FF", range_prefixes::runs_of_ff),
-        test(
-            "pivot_lcp: first differences",
-            range_prefixes::first_differences,
-        ),
-        test("change_prefix: all pairs", changes::all_pairs),
-        test("change_prefix: all lengths", changes::all_lengths),
-        test(
-            "change_prefix: first differences",
-            changes::first_differences,
-        ),
-        test("shortest_uncommon_prefix: small", upper_bounds::small),
-        test("shortest_uncommon_prefix: all FF", upper_bounds::all_ff),
-        test(
-            "shortest_uncommon_prefix: last other",
-            upper_bounds::last_other,
-        ),
-        test("pivot_key: every record", malformed::pivot_key),
-        test("entry_key: every record", malformed::entry_key),
-        test("compare: every record", malformed::compare),
-        test("pivot_lcp: every record", malformed::pivot_lcp),
-        test("wrapper: keys and records", wrapper::keys_and_records),
-        test("wrapper: destinations", wrapper::destinations),
-    ]
-}
-
-fn tests_of_every_call() -> Vec<Test> {
-    let mut tests = vec![];
-    for call in key_calls::CALLS {
-        let name = format!("{}: every length", call.name);
-        tests.push(test(name, |group| lengths::every_length(group, call)));
-        let name = format!("{}: random", call.name);
-        tests.push(test(name, |group| random::cases(group, call, 200_000)));
-    }
-    tests
-}
-
 fn main() -> ExitCode {
-    let (mut passed, mut failed) = (0, 0);
-    let mut count = |has_passed| match has_passed {
-        true => passed += 1,
-        false => failed += 1,
-    };
-    let mut every_table = EveryTable::default();
     let tests = [
-        tests_by_hand(),
-        tests_of_one_call(),
-        tests_of_every_call(),
+        vectors::tests(),
+        keys::tests(),
         tables::tests(),
         cuts::tests(),
-        insertion::tests(),
         joining::tests(),
+        translation::tests(),
         pairs::tests(),
         renaming::tests(),
         parent_child::tests(),
@@ -117,15 +49,15 @@ fn main() -> ExitCode {
         list::tests(),
         command::tests(),
     ];
-    for test in tests.into_iter().flatten() {
-        let mut group = Group::default();
-        if catch_unwind(AssertUnwindSafe(|| (test.body)(&mut group))).is_err() {
-            group.fail("it stopped by a panic");
+    let tests: Vec<_> = tests.into_iter().flatten().collect();
+    let (mut passed, mut failed) = (0, 0);
+    run::all(&tests, |line| {
+        println!("{}", line.text);
+        match line.passed {
+            true => passed += 1,
+            false => failed += 1,
         }
-        every_table.of(&group);
-        count(group.report(&test.name));
-    }
-    count(every_table.report());
+    });
     println!("{passed} passed, {failed} failed");
     ExitCode::from(u8::from(failed > 0))
 }

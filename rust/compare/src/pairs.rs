@@ -1,6 +1,5 @@
 //! Groups for pairs: reversing, applying, composing.
-mod by_hand;
-mod calls;
+pub mod calls;
 mod laws;
 mod prefixes;
 mod records;
@@ -13,12 +12,6 @@ use crate::{lengths, random};
 
 pub fn tests() -> Vec<Test> {
     let mut tests = vec![
-        test("rows 11 to 13: composing", by_hand::rows),
-        test("pairs by hand", by_hand::pairs),
-        test("absent pairs by hand", by_hand::absent),
-        test("pairs: 64 and 65 bytes produced", by_hand::limits),
-        test("pairs: malformed by hand", by_hand::malformed),
-        test("pairs: order of causes by hand", by_hand::order_of_causes),
         test("reverse_pair: all small pairs", small::reversed),
         test("apply_pair: all small pairs and keys", small::applied),
         test("compose_pairs: all small pairs", small::composed),

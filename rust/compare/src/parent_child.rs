@@ -1,6 +1,5 @@
 //! Groups for the question of parent and child.
-mod by_hand;
-mod calls;
+pub mod calls;
 mod children;
 mod laws;
 mod random;
@@ -16,13 +15,6 @@ pub fn tests() -> Vec<Test> {
     let call = &PARENT_KEYS_IN_CHILD_RANGE;
     let name = |what| format!("{}: {what}", call.name);
     vec![
-        test("parent and child by hand", by_hand::of_t),
-        test("parent and child: 64 and 65 bytes", by_hand::limits),
-        test("parent and child: slots by hand", by_hand::slots),
-        test(
-            "parent and child: order of causes by hand",
-            by_hand::order_of_causes,
-        ),
         test(name("small tables"), small::tables),
         test(name("unsorted"), small::unsorted),
         test(name("every length"), |group| {

@@ -1,5 +1,4 @@
 //! Groups for pivots and edges under another prefix.
-mod by_hand;
 pub mod calls;
 mod laws;
 mod random;
@@ -14,12 +13,6 @@ use calls::{TRANSLATE_EDGES, TRANSLATE_PIVOTS, TRANSLATE_PIVOT_PAIR};
 
 pub fn tests() -> Vec<Test> {
     let mut tests = vec![
-        test("row 16: a pivot pair", by_hand::row),
-        test("pivot pairs by hand", by_hand::pivot_pairs),
-        test("pivot pairs: order of causes by hand", by_hand::pair_causes),
-        test("pivots under another prefix by hand", by_hand::pivots),
-        test("pivots: order of causes by hand", by_hand::pivot_causes),
-        test("edges filled by hand", by_hand::edges),
         test("translate_pivot_pair: all small ranges", small::ranges),
         test("translate_pivot_pair: all lengths", small::lengths),
         test("translate_pivots: small tables", small::pivots),

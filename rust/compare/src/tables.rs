@@ -1,5 +1,4 @@
 //! Groups for the calls on tables.
-mod by_hand;
 pub mod calls;
 pub mod faults;
 mod small;
@@ -10,11 +9,6 @@ use crate::{lengths, random};
 
 pub fn tests() -> Vec<Test> {
     let mut tests = vec![
-        test("table T by hand", by_hand::table_t),
-        test("slots of T by hand", by_hand::slots),
-        test("counts of pivots and edges by hand", by_hand::counts),
-        test("places by hand", by_hand::places),
-        test("order of causes by hand", by_hand::order_of_causes),
         test("init_pivot_table: every length", small::first_table),
         test("contains_range: small tables", small::ranges),
         test("wf_edges: small tables", small::edges),

@@ -1,4 +1,5 @@
-//! Every function of the archive has its call, and the call a test in a file `calls_*.rs`.
+//! Every function of the archive has its call, and the call a row in `vectors.rs`, which runs the cases of the
+//! folder `vectors`; that each call has a case is a group of the comparison.
 use std::fs;
 use std::path::Path;
 
@@ -15,21 +16,17 @@ fn text(folder: &str, begins: &str) -> String {
     texts.collect()
 }
 
-/// How often a word stands in the code.
-fn count(word: &str, code: &str) -> usize {
-    let words = code.split(|c: char| !(c.is_alphanumeric() || c == '_'));
-    words.filter(|found| *found == word).count()
-}
-
 #[test]
-fn each_call_has_its_test() {
+fn each_call_has_its_row() {
     let declared = text("src", "raw.rs") + &text("src/raw", "");
     let names = declared.split("pub fn jd_").skip(1);
     let names: Vec<&str> = names.filter_map(|rest| rest.split('(').next()).collect();
     assert!(!names.is_empty());
-    let tests = text("tests", "calls_");
+    let rows = text("tests", "vectors.rs");
     for name in names {
-        // Beside its import it is called, or lent to what calls it.
-        assert!(count(name, &tests) > 1, "no test calls {name}");
+        assert!(
+            rows.contains(&format!("\n    {name}(")),
+            "no row calls {name}"
+        );
     }
 }

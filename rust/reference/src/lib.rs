@@ -7,8 +7,6 @@
 //! argument, and so on. The order is 1, 2, 3, 4, 13, 14, 5, 11, 12, 15, 6, 7, 8, 9, 10.
 #![forbid(unsafe_code)]
 
-#[cfg(test)]
-mod bucket_tests;
 mod buckets;
 #[cfg(test)]
 mod cut_tests;
@@ -27,22 +25,14 @@ mod keys;
 mod list;
 #[cfg(test)]
 mod list_tests;
-#[cfg(test)]
-mod pair_tests;
 mod pairs;
 mod parent_child;
-#[cfg(test)]
-mod parent_child_tests;
 mod plain_cut;
 mod range_prefix;
 mod record;
 mod refusal;
 mod renaming;
-#[cfg(test)]
-mod renaming_tests;
 mod table;
-#[cfg(test)]
-mod table_tests;
 mod tables;
 #[cfg(test)]
 mod test_tables;

@@ -1,7 +1,7 @@
-//! Records, tables, pairs and buckets for the tests.
-use crate::{PAIR_SIZE, RECORD_SIZE};
+//! Records, tables and buckets for the tests.
+use crate::RECORD_SIZE;
 
-pub fn field(field: u16) -> Vec<u8> {
+fn field(field: u16) -> Vec<u8> {
     let mut record = vec![0; RECORD_SIZE];
     record[..2].copy_from_slice(&field.to_be_bytes());
     record
@@ -31,35 +31,8 @@ pub fn t() -> (Vec<u8>, Vec<u8>) {
     (pivots, [record(&[0x43]), no_edge()].concat())
 }
 
-/// So many pivots of two bytes, two apart, and this edge in every slot.
-pub fn many(count: u8, edge: Vec<u8>) -> (Vec<u8>, Vec<u8>) {
-    let pivots = (0..count).flat_map(|i| record(&[0x41, 2 * i]));
-    (pivots.collect(), edge.repeat(usize::from(count) - 1))
-}
-
-/// The absent pair.
-pub fn absent() -> Vec<u8> {
-    vec![0; PAIR_SIZE]
-}
-
-/// The pair from an old prefix to a new one.
-pub fn pair(old: &[u8], new: &[u8]) -> Vec<u8> {
-    let mut record = absent();
-    record[0] = 1;
-    record[2] = old.len() as u8;
-    record[4] = new.len() as u8;
-    record[5..5 + old.len()].copy_from_slice(old);
-    record[69..69 + new.len()].copy_from_slice(new);
-    record
-}
-
-/// The entry with this record and this number.
-pub fn entry(record: Vec<u8>, number: u32) -> Vec<u8> {
-    [record, number.to_be_bytes().to_vec()].concat()
-}
-
 /// A bucket of these keys, numbered from 1.
 pub fn bucket(keys: &[&[u8]]) -> Vec<u8> {
-    let entries = (1..).zip(keys).map(|(i, key)| entry(record(key), i));
-    entries.flatten().collect()
+    let entry = |(number, key): (u32, &&[u8])| [&record(key)[..], &number.to_be_bytes()].concat();
+    (1..).zip(keys).flat_map(entry).collect()
 }

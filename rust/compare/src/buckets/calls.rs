@@ -5,6 +5,8 @@ use crate::renaming::calls::{NEW_PREFIX, PREFIX};
 use crate::told::{count, yes};
 use joistdenim::raw;
 
+pub static CALLS: [&Call; 2] = [&TRANSLATE_BUCKET, &TRANSLATE_BUCKET_WILL_FIT];
+
 const ARGUMENTS: &[(&str, Kind)] = &[("bucket", Kind::Bucket), PREFIX, NEW_PREFIX];
 
 pub static TRANSLATE_BUCKET: Call = Call {
@@ -14,10 +16,10 @@ pub static TRANSLATE_BUCKET: Call = Call {
         "translate_bucket",
         ARGUMENTS,
         |_, lent| lend!(lent, raw::jd_translate_bucket, bucket, prefix, new_prefix; dest),
-        |asked, [dest, _], number| {
+        |asked, [dest, _], numbers| {
             let [bucket, prefix, new_prefix] = asked.all();
             let kept = reference::translate_bucket(bucket, prefix, new_prefix, dest);
-            count(kept, number)
+            count(kept, numbers)
         },
     )
 };
@@ -29,11 +31,11 @@ pub static TRANSLATE_BUCKET_WILL_FIT: Call = Call {
         "translate_bucket_will_fit",
         ARGUMENTS,
         |asked, lent| lend!(lent, raw::jd_translate_bucket_will_fit, bucket, prefix, new_prefix; ; asked.place),
-        |asked, _, number| {
+        |asked, _, numbers| {
             let [bucket, prefix, new_prefix] = asked.all();
             let len = asked.place;
             let fits = reference::translate_bucket_will_fit(bucket, prefix, new_prefix, len);
-            yes(fits, number)
+            yes(fits, numbers)
         },
     )
 };

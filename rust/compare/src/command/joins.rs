@@ -12,6 +12,7 @@ use std::ffi::OsStr;
 use std::fs;
 use std::path::PathBuf;
 use std::process::id;
+use std::sync::atomic::{AtomicUsize, Ordering};
 
 /// Joins, one after the other, and the file that each second table is in.
 struct Joins<'a> {
@@ -29,10 +30,13 @@ impl Drop for Joins<'_> {
 }
 
 impl<'a> Joins<'a> {
+    /// Groups run side by side, so each has a file of its own.
     fn new(group: &'a mut Group) -> Self {
+        static FILES: AtomicUsize = AtomicUsize::new(0);
+        let (program, file) = (id(), FILES.fetch_add(1, Ordering::Relaxed));
         Joins {
             group,
-            file: temp_dir().join(format!("joistdenim-compare-{}.table", id())),
+            file: temp_dir().join(format!("joistdenim-compare-{program}-{file}.table")),
             seen: [0; 2],
         }
     }

@@ -4,15 +4,17 @@ use super::changes::each_changed;
 use super::wanted::{list_text, refusal_in};
 use super::{command, expect, text};
 use crate::cuts::small::each_good_table;
-use crate::group::{test, Group, Test};
+use crate::group::{test, Group, Line, Test};
 use crate::inputs::Xorshift;
 use crate::list::calls::LIST_TABLE;
-use crate::list::{by_hand, laws, random, small};
+use crate::list::{laws, random, small};
 use crate::list_inputs::joined;
 use crate::random::slices;
 use crate::table_inputs::{absent, distinct, rising};
 use std::collections::HashSet;
 use std::hash::{DefaultHasher, Hash, Hasher};
+use std::sync::Mutex;
+use vectors::Outcome;
 
 const SEED: u64 = 20_420_627;
 
@@ -54,10 +56,13 @@ const fn sort(name: &'static str, mixed: bool, each: Each) -> Sort {
 }
 
 pub fn tests() -> Vec<Test> {
-    let mut tests = vec![test("command: list and table by hand", |group| {
-        by_hand::each(|input, text| {
-            both_ways(group, input, text);
-        });
+    let mut tests = vec![test("command: list and table, the vectors", |group| {
+        for case in vectors::cases("list") {
+            if let Outcome::Taken { written, .. } = &case.outcome {
+                let text = str::from_utf8(&written[0]).expect("a list is a text");
+                both_ways(group, &case.slices[0], text);
+            }
+        }
     })];
     for sort in SORTS {
         let name = format!("command: list and table, {}", sort.name);
@@ -66,31 +71,39 @@ pub fn tests() -> Vec<Test> {
     tests
 }
 
-/// Every table that a case of a group lent to a call, once.
+/// The tables that were looked at, by their hashes.
+pub type Seen = Mutex<HashSet<u64>>;
+
+/// Every table that a case of a group lent to a call, once: those that one thread came by first.
 #[derive(Default)]
 pub struct EveryTable {
     group: Group,
-    /// By their hashes.
-    seen: HashSet<u64>,
     sorts: [usize; 2],
 }
 
 impl EveryTable {
-    pub fn of(&mut self, group: &Group) {
+    pub fn of(&mut self, group: &Group, seen: &Seen) {
         for input in group.tables() {
             let mut hasher = DefaultHasher::new();
             input.hash(&mut hasher);
-            if self.seen.insert(hasher.finish()) {
+            if seen.lock().expect("no panic").insert(hasher.finish()) {
                 let sort = both_ways(&mut self.group, input, &list_text(input));
                 self.sorts[usize::from(sort)] += 1;
             }
         }
     }
 
-    pub fn report(mut self) -> bool {
+    /// What another thread came by, too.
+    pub fn and(mut self, other: EveryTable) -> Self {
+        self.group.take(other.group);
+        self.sorts = [0, 1].map(|sort| self.sorts[sort] + other.sorts[sort]);
+        self
+    }
+
+    pub fn line(mut self) -> Line {
         self.group.sorts(&self.sorts);
         self.group
-            .report("command: list and table, every table that a call was lent")
+            .line("command: list and table, every table that a call was lent")
     }
 }
 

@@ -1,20 +1,12 @@
-//! The cuts, a new pivot, the translation of a key and the pair of a key's slot, in the archive and
-//! in the reference.
+//! The cuts and a new pivot, in the archive and in the reference.
 use crate::asked::Asked;
-use crate::call::{bytes, call, Call};
+use crate::call::{call, Call};
 use crate::lent::lend;
-use crate::pair_inputs::PAIR_SIZE;
 use crate::tables::calls::{EDGES, KEY, PIVOTS};
-use crate::told::{count, yes};
+use crate::told::count;
 use joistdenim::raw;
 
-pub static CALLS: [&Call; 5] = [
-    &SPLIT_LEFT,
-    &SPLIT_RIGHT,
-    &INSERT_PIVOT,
-    &TRANSLATE_KEY,
-    &TRANSLATE,
-];
+pub static CALLS: [&Call; 3] = [&SPLIT_LEFT, &SPLIT_RIGHT, &INSERT_PIVOT];
 
 pub const DESTS: &[&str] = &["dest_pivots", "dest_edges"];
 
@@ -30,10 +22,10 @@ pub static SPLIT_LEFT: Call = Call {
         "split_left",
         &[PIVOTS, EDGES, KEY],
         |_, lent| lend!(lent, raw::jd_split_left, pivots, edges, key; dest_pivots, dest_edges),
-        |asked, [dest_pivots, dest_edges], number| {
+        |asked, [dest_pivots, dest_edges], numbers| {
             let [pivots, edges, key] = asked.all();
             let written = reference::split_left(pivots, edges, key, dest_pivots, dest_edges);
-            count(written, number)
+            count(written, numbers)
         },
     )
 };
@@ -45,10 +37,10 @@ pub static SPLIT_RIGHT: Call = Call {
         "split_right",
         &[PIVOTS, EDGES, KEY],
         |_, lent| lend!(lent, raw::jd_split_right, pivots, edges, key; dest_pivots, dest_edges),
-        |asked, [dest_pivots, dest_edges], number| {
+        |asked, [dest_pivots, dest_edges], numbers| {
             let [pivots, edges, key] = asked.all();
             let written = reference::split_right(pivots, edges, key, dest_pivots, dest_edges);
-            count(written, number)
+            count(written, numbers)
         },
     )
 };
@@ -60,38 +52,10 @@ pub static INSERT_PIVOT: Call = Call {
         "insert_pivot",
         &[PIVOTS, EDGES, KEY],
         |_, lent| lend!(lent, raw::jd_insert_pivot, pivots, edges, key; dest_pivots, dest_edges),
-        |asked, [dest_pivots, dest_edges], number| {
+        |asked, [dest_pivots, dest_edges], numbers| {
             let [pivots, edges, key] = asked.all();
             let written = reference::insert_pivot(pivots, edges, key, dest_pivots, dest_edges);
-            count(written, number)
-        },
-    )
-};
-
-pub static TRANSLATE_KEY: Call = Call {
-    dests: &["dest"],
-    written: bytes,
-    ..call(
-        "translate_key",
-        &[PIVOTS, EDGES, KEY],
-        |_, lent| lend!(lent, raw::jd_translate_key, pivots, edges, key; dest),
-        |asked, [dest, _], number| {
-            let [pivots, edges, key] = asked.all();
-            count(reference::translate_key(pivots, edges, key, dest), number)
-        },
-    )
-};
-
-pub static TRANSLATE: Call = Call {
-    dests: &["dest_pair"],
-    written: |_, _| [PAIR_SIZE, 0],
-    ..call(
-        "translate",
-        &[PIVOTS, EDGES, KEY],
-        |_, lent| lend!(lent, raw::jd_translate, pivots, edges, key; dest_pair),
-        |asked, [dest, _], number| {
-            let [pivots, edges, key] = asked.all();
-            yes(reference::translate(pivots, edges, key, dest), number)
+            count(written, numbers)
         },
     )
 };

@@ -1,10 +1,11 @@
 //! The safe wrapper's cuts, insertion and translation against the reference.
-use super::calls::{INSERT_PIVOT, SPLIT_LEFT, SPLIT_RIGHT, TRANSLATE, TRANSLATE_KEY};
+use super::calls::{INSERT_PIVOT, SPLIT_LEFT, SPLIT_RIGHT};
 use super::inputs::{good_table, key_near};
 use crate::dests::dests_around;
 use crate::group::Group;
 use crate::inputs::Xorshift;
 use crate::table_inputs::{usual_edges, usual_pivots};
+use crate::translation::calls::{TRANSLATE, TRANSLATE_KEY};
 use crate::wrapper::{into_both, two_into_both};
 
 const SEED: u64 = 20_280_627;

@@ -40,9 +40,9 @@ pub static BUILD_INDEX: Call = Call {
         "build_index",
         &[PIVOTS, BUCKET],
         |_, lent| lend!(lent, raw::jd_build_index, pivots, bucket; dest),
-        |asked, [dest, _], number| {
+        |asked, [dest, _], numbers| {
             let [pivots, bucket] = asked.all();
-            count(reference::build_index(pivots, bucket, dest), number)
+            count(reference::build_index(pivots, bucket, dest), numbers)
         },
     )
 };
@@ -51,9 +51,9 @@ pub static CHECK_INDEX: Call = call(
     "check_index",
     &[PIVOTS, BUCKET, INDEX],
     |_, lent| lend!(lent, raw::jd_check_index, pivots, bucket, index;),
-    |asked, _, number| {
+    |asked, _, numbers| {
         let [pivots, bucket, index] = asked.all();
-        count(reference::check_index(pivots, bucket, index), number)
+        count(reference::check_index(pivots, bucket, index), numbers)
     },
 );
 
@@ -64,10 +64,10 @@ pub static SLOT_ENTRIES: Call = Call {
         "slot_entries",
         &[PIVOTS, BUCKET, INDEX],
         |asked, lent| lend!(lent, raw::jd_slot_entries, pivots, bucket, index; ; asked.place),
-        |asked, _, number| {
+        |asked, _, numbers| {
             let [pivots, bucket, index] = asked.all();
             let part = reference::slot_entries(pivots, bucket, index, asked.place);
-            count(part.map(|part| part.len() / ENTRY_SIZE), number)
+            count(part.map(|part| part.len() / ENTRY_SIZE), numbers)
         },
     )
 };
@@ -88,11 +88,11 @@ pub static CUT_INDEX_LEFT: Call = Call {
                 dest_bucket, dest_index
             )
         },
-        |asked, [dest_bucket, dest_index], number| {
+        |asked, [dest_bucket, dest_index], numbers| {
             let [pivots, bucket, index, key] = asked.all();
             let total =
                 reference::cut_index_left(pivots, bucket, index, key, dest_bucket, dest_index);
-            count(total, number)
+            count(total, numbers)
         },
     )
 };
@@ -113,11 +113,11 @@ pub static CUT_INDEX_RIGHT: Call = Call {
                 dest_bucket, dest_index
             )
         },
-        |asked, [dest_bucket, dest_index], number| {
+        |asked, [dest_bucket, dest_index], numbers| {
             let [pivots, bucket, index, key] = asked.all();
             let total =
                 reference::cut_index_right(pivots, bucket, index, key, dest_bucket, dest_index);
-            count(total, number)
+            count(total, numbers)
         },
     )
 };
@@ -134,7 +134,7 @@ pub static TRANSLATE_INDEX: Call = Call {
                 dest_bucket, dest_index
             )
         },
-        |asked, [dest_bucket, dest_index], number| {
+        |asked, [dest_bucket, dest_index], numbers| {
             let [pivots, bucket, index, old, new] = asked.all();
             let total = reference::translate_index(
                 pivots,
@@ -145,7 +145,7 @@ pub static TRANSLATE_INDEX: Call = Call {
                 dest_bucket,
                 dest_index,
             );
-            count(total, number)
+            count(total, numbers)
         },
     )
 };

@@ -18,11 +18,11 @@ pub static JOIN: Call = Call {
             ("second_edges", Kind::Edges),
         ],
         |_, lent| lend!(lent, raw::jd_join, p1, e1, p2, e2; dest_pivots, dest_edges),
-        |asked, [dest_pivots, dest_edges], number| {
+        |asked, [dest_pivots, dest_edges], numbers| {
             let [p1, e1, p2, e2] = asked.all();
             count(
                 reference::join(p1, e1, p2, e2, dest_pivots, dest_edges),
-                number,
+                numbers,
             )
         },
     )

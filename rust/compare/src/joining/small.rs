@@ -20,14 +20,12 @@ pub fn splits(group: &mut Group) {
             each_edges(&mut table, &edges, |table| {
                 let whole = Records::of(table);
                 let good = reference::wf_edges(&whole.pivots, &whole.edges).is_ok();
+                let pivots = [table.slots() as i64 + 1];
                 for place in 0..=table.slots() {
                     let halves = whole.halves(place);
                     let lent = slices(halves.each_ref());
                     let wanted = match (0 < place && place < table.slots(), good) {
-                        (true, true) => {
-                            let pivots = table.slots() as i64 + 1;
-                            Wanted::Answers(pivots, [&whole.pivots, &whole.edges])
-                        }
+                        (true, true) => Wanted::Answer(&pivots, [&whole.pivots, &whole.edges]),
                         (true, false) => Wanted::Refusal(4),
                         (false, _) => Wanted::Refusal(1),
                     };

@@ -11,6 +11,6 @@ pub static LIST_TABLE: Call = Call {
         "list_table",
         &[("input", Kind::Input)],
         |_, lent| lend!(lent, raw::jd_list_table, input; dest),
-        |asked, [dest, _], number| count(reference::list_table(asked.slices[0], dest), number),
+        |asked, [dest, _], numbers| count(reference::list_table(asked.slices[0], dest), numbers),
     )
 };

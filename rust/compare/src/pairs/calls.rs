@@ -15,7 +15,7 @@ pub static REVERSE_PAIR: Call = Call {
         "reverse_pair",
         &[("pair", Kind::Pair)],
         |_, lent| lend!(lent, raw::jd_reverse_pair, pair; dest_pair),
-        |asked, [dest, _], number| yes(reference::reverse_pair(asked.slices[0], dest), number),
+        |asked, [dest, _], numbers| yes(reference::reverse_pair(asked.slices[0], dest), numbers),
     )
 };
 
@@ -26,9 +26,9 @@ pub static APPLY_PAIR: Call = Call {
         "apply_pair",
         &[("pair", Kind::Pair), KEY],
         |_, lent| lend!(lent, raw::jd_apply_pair, pair, key; dest),
-        |asked, [dest, _], number| {
+        |asked, [dest, _], numbers| {
             let [pair, key] = asked.all();
-            count(reference::apply_pair(pair, key, dest), number)
+            count(reference::apply_pair(pair, key, dest), numbers)
         },
     )
 };
@@ -40,9 +40,9 @@ pub static COMPOSE_PAIRS: Call = Call {
         "compose_pairs",
         &[("pair_a", Kind::Pair), ("pair_b", Kind::Pair)],
         |_, lent| lend!(lent, raw::jd_compose_pairs, pair_a, pair_b; dest_pair),
-        |asked, [dest, _], number| {
+        |asked, [dest, _], numbers| {
             let [a, b] = asked.all();
-            yes(reference::compose_pairs(a, b, dest), number)
+            yes(reference::compose_pairs(a, b, dest), numbers)
         },
     )
 };

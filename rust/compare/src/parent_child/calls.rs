@@ -14,10 +14,13 @@ pub static PARENT_KEYS_IN_CHILD_RANGE: Call = Call {
             ("child_pivots", Kind::Child),
         ],
         |asked, lent| lend!(lent, raw::jd_parent_keys_in_child_range, p, e, c; ; asked.place),
-        |asked, _, number| {
+        |asked, _, numbers| {
             let [p, e, c] = asked.all();
             let slot = asked.place;
-            yes(reference::parent_keys_in_child_range(p, e, c, slot), number)
+            yes(
+                reference::parent_keys_in_child_range(p, e, c, slot),
+                numbers,
+            )
         },
     )
 };

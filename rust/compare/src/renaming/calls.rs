@@ -5,6 +5,8 @@ use crate::tables::calls::{EDGES, PIVOTS};
 use crate::told::count;
 use joistdenim::raw;
 
+pub static CALLS: [&Call; 3] = [&TRANSLATE_PIVOT_PAIR, &TRANSLATE_PIVOTS, &TRANSLATE_EDGES];
+
 pub const PREFIX: (&str, Kind) = ("prefix", Kind::Key);
 pub const NEW_PREFIX: (&str, Kind) = ("new_prefix", Kind::Key);
 
@@ -20,10 +22,10 @@ pub static TRANSLATE_PIVOT_PAIR: Call = Call {
             NEW_PREFIX,
         ],
         |_, lent| lend!(lent, raw::jd_translate_pivot_pair, left, right, prefix, new_prefix; dest),
-        |asked, [dest, _], number| {
+        |asked, [dest, _], numbers| {
             let [left, right, prefix, new_prefix] = asked.all();
             let written = reference::translate_pivot_pair(left, right, prefix, new_prefix, dest);
-            count(written, number)
+            count(written, numbers)
         },
     )
 };
@@ -35,10 +37,10 @@ pub static TRANSLATE_PIVOTS: Call = Call {
         "translate_pivots",
         &[PIVOTS, PREFIX, NEW_PREFIX, ("end", Kind::Record)],
         |_, lent| lend!(lent, raw::jd_translate_pivots, pivots, prefix, new_prefix, end; dest),
-        |asked, [dest, _], number| {
+        |asked, [dest, _], numbers| {
             let [pivots, prefix, new_prefix, end] = asked.all();
             let written = reference::translate_pivots(pivots, prefix, new_prefix, end, dest);
-            count(written, number)
+            count(written, numbers)
         },
     )
 };
@@ -50,9 +52,9 @@ pub static TRANSLATE_EDGES: Call = Call {
         "translate_edges",
         &[PIVOTS, EDGES],
         |_, lent| lend!(lent, raw::jd_translate_edges, pivots, edges; dest),
-        |asked, [dest, _], number| {
+        |asked, [dest, _], numbers| {
             let [pivots, edges] = asked.all();
-            count(reference::translate_edges(pivots, edges, dest), number)
+            count(reference::translate_edges(pivots, edges, dest), numbers)
         },
     )
 };

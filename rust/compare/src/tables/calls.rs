@@ -60,16 +60,16 @@ pub static CONTAINS_ALL_KEYS: Call = call(
     "contains_all_keys",
     &[PIVOTS],
     |_, lent| lend!(lent, raw::jd_contains_all_keys, pivots;),
-    |asked, _, number| yes(reference::contains_all_keys(asked.slices[0]), number),
+    |asked, _, numbers| yes(reference::contains_all_keys(asked.slices[0]), numbers),
 );
 
 pub static CONTAINS_RANGE: Call = call(
     "contains_range",
     &[PIVOTS, ("left", Kind::Key), ("right", Kind::Record)],
     |_, lent| lend!(lent, raw::jd_contains_range, pivots, left, right;),
-    |asked, _, number| {
+    |asked, _, numbers| {
         let [pivots, left, right] = asked.all();
-        yes(reference::contains_range(pivots, left, right), number)
+        yes(reference::contains_range(pivots, left, right), numbers)
     },
 );
 
@@ -77,10 +77,10 @@ pub static BOUNDED_KEY: Call = call(
     "bounded_key",
     &[PIVOTS, KEY],
     |_, lent| lend!(lent, raw::jd_bounded_key, pivots, key;),
-    |asked, _, number| {
+    |asked, _, numbers| {
         yes(
             reference::bounded_key(asked.slices[0], asked.slices[1]),
-            number,
+            numbers,
         )
     },
 );
@@ -89,9 +89,9 @@ pub static VALID_LEFT_CUT_OFF_KEY: Call = call(
     "valid_left_cut_off_key",
     &[PIVOTS, KEY],
     |_, lent| lend!(lent, raw::jd_valid_left_cut_off_key, pivots, key;),
-    |asked, _, number| {
+    |asked, _, numbers| {
         let valid = reference::valid_left_cut_off_key(asked.slices[0], asked.slices[1]);
-        yes(valid, number)
+        yes(valid, numbers)
     },
 );
 
@@ -102,14 +102,14 @@ pub static PIVOT_INSERTABLE: Call = Call {
         &[PIVOTS, KEY],
         |asked, lent| {
             let [pivots, key] = lent.slices();
-            let (at, place) = (lent.answer(), asked.place);
+            let ([at], place) = (lent.answers(), asked.place);
             unsafe { raw::jd_pivot_insertable(pivots.at, pivots.len, place, key.at, key.len, at) }
         },
-        |asked, _, number| {
+        |asked, _, numbers| {
             let (pivots, key) = (asked.slices[0], asked.slices[1]);
             yes(
                 reference::pivot_insertable(pivots, asked.place, key),
-                number,
+                numbers,
             )
         },
     )
@@ -121,9 +121,9 @@ pub static GET_KEY: Call = Call {
         "get_key",
         &[PIVOTS],
         |asked, lent| lend!(lent, raw::jd_get_key, pivots; ; asked.place),
-        |asked, _, number| {
+        |asked, _, numbers| {
             let key = reference::get_key(asked.slices[0], asked.place);
-            count(key.map(<[u8]>::len), number)
+            count(key.map(<[u8]>::len), numbers)
         },
     )
 };
@@ -135,7 +135,7 @@ pub static INIT_PIVOT_TABLE: Call = Call {
         "init_pivot_table",
         &[],
         |_, lent| lend!(lent, raw::jd_init_pivot_table, ; dest),
-        |_, [dest, _], number| count(reference::init_pivot_table(dest), number),
+        |_, [dest, _], numbers| count(reference::init_pivot_table(dest), numbers),
     )
 };
 
@@ -143,17 +143,17 @@ pub static ROUTE: Call = call(
     "route",
     &[PIVOTS, KEY],
     |_, lent| lend!(lent, raw::jd_route, pivots, key;),
-    |asked, _, number| count(reference::route(asked.slices[0], asked.slices[1]), number),
+    |asked, _, numbers| count(reference::route(asked.slices[0], asked.slices[1]), numbers),
 );
 
 pub static CUTOFF_FOR_LEFT: Call = call(
     "cutoff_for_left",
     &[PIVOTS, KEY],
     |_, lent| lend!(lent, raw::jd_cutoff_for_left, pivots, key;),
-    |asked, _, number| {
+    |asked, _, numbers| {
         count(
             reference::cutoff_for_left(asked.slices[0], asked.slices[1]),
-            number,
+            numbers,
         )
     },
 );
@@ -162,10 +162,10 @@ pub static CUTOFF_FOR_RIGHT: Call = call(
     "cutoff_for_right",
     &[PIVOTS, KEY],
     |_, lent| lend!(lent, raw::jd_cutoff_for_right, pivots, key;),
-    |asked, _, number| {
+    |asked, _, numbers| {
         count(
             reference::cutoff_for_right(asked.slices[0], asked.slices[1]),
-            number,
+            numbers,
         )
     },
 );

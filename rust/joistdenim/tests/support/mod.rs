@@ -1,12 +1,9 @@
 //! What the tests share: bytes and values written as text, T, and what is said of a text that is
 //! no table.
 #![allow(dead_code)]
-use joistdenim::{Bucket, Edge, Element, Key, ListError, Refusal, Table};
+use joistdenim::{Bucket, Element, Key, ListError, Refusal, Table};
 use std::fmt::Debug;
 use std::str::FromStr;
-
-/// What fills a destination before a call: a refusal must leave it.
-pub const UNTOUCHED: u8 = 0xA5;
 
 fn read<T: FromStr<Err: Debug>>(text: &str) -> T {
     text.parse().expect(text)
@@ -47,37 +44,9 @@ pub fn pivots(text: &str) -> Vec<u8> {
     elements.flat_map(|element| *element.record()).collect()
 }
 
-/// The records of edges, parted by spaces.
-pub fn edges(text: &str) -> Vec<u8> {
-    let edges = text.split(' ').map(read::<Edge>);
-    edges.flat_map(|edge| *edge.record()).collect()
-}
-
 /// The entries of a bucket, a line for each.
 pub fn entries(text: &str) -> Vec<u8> {
     read::<Bucket>(text).as_bytes().to_vec()
-}
-
-/// A destination of so many bytes.
-pub fn room(length: usize) -> Vec<u8> {
-    vec![UNTOUCHED; length]
-}
-
-/// What a call answers, and what it leaves in a destination of so many bytes.
-pub fn written<A>(length: usize, call: impl FnOnce(&mut [u8]) -> A) -> (A, Vec<u8>) {
-    let mut dest = room(length);
-    let answer = call(&mut dest);
-    (answer, dest)
-}
-
-/// What a call answers, and what it leaves in two destinations of so many bytes.
-pub fn written_both<A>(
-    lengths: [usize; 2],
-    call: impl FnOnce(&mut [u8], &mut [u8]) -> A,
-) -> (A, Vec<u8>, Vec<u8>) {
-    let [mut first, mut second] = lengths.map(room);
-    let answer = call(&mut first, &mut second);
-    (answer, first, second)
 }
 
 /// The texts, each of them T's.
