@@ -21,7 +21,7 @@ const FILES: [(&str, &str); 3] = [
 ];
 
 /// Where the file or folder of its topic names a call; a folder that isn't there isn't looked at.
-const CASES: [&str; 1] = ["vectors"];
+const CASES: [&str; 2] = ["vectors", "rust/compare/src"];
 
 /// Before the name of every call in C.
 pub const PREFIX: &str = "jd_";

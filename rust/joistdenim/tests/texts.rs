@@ -157,7 +157,7 @@ fn buckets_are_read() {
     assert_eq!(written.parse().as_ref(), Ok(&bucket));
     assert_eq!("".parse::<Bucket>(), Ok(Bucket::default()));
     let last = format!("41\t{}\n", Number::MAX);
-    assert_eq!(last.parse::<Bucket>().expect("the last number").to_string(), last);
+    assert_eq!(last.parse::<Bucket>().expect("a bucket").to_string(), last);
 }
 
 #[test]
