@@ -5,7 +5,7 @@ use Prim.Native.Nat.{ℕ, _+_, _-_, _≤_, _<_}
 use native.Mathlib.Omega.{arith}
 use lib.ListN.{length, take, drop, length-append}
 use borrow.Rule.Slice.PartMut.{putMid}
-use Rattle.model.specs.records.Record.{recordOf, encode, joined, encodeAll}
+use Rattle.model.specs.records.Record.{maxMark, recordOf, encode, joined, encodeAll}
 use Rattle.model.specs.inner.Written.{clipped}
 use Rattle.model.specs.keys.Order.{key, max}
 use Rattle.model.specs.tables.Tables.{InitPivotTable}
@@ -16,11 +16,11 @@ use Rattle.model.proofs.records.Record.{length-record}
 
 -- one record, and in the rest the other
 pub both-written : (d v w : List ℕ) → 132 ≤ length d → v ≡ into (recordOf 0 (clipped [])) d
-    → w ≡ into (recordOf 65535 (clipped [])) (take (length v - 66) (drop 66 v)) → putMid 66 (length v - 66) v w ≡ over (encodeAll InitPivotTable) d
+    → w ≡ into (recordOf maxMark (clipped [])) (take (length v - 66) (drop 66 v)) → putMid 66 (length v - 66) v w ≡ over (encodeAll InitPivotTable) d
 unfolding encodeAll joined encode InitPivotTable clipped
 both-written d v w h e g =
     let l = length-record 0 [] (omega arith) in
-    let m = length-record 65535 [] (omega arith) in
+    let m = length-record maxMark [] (omega arith) in
     rw append-nil
-    (written-on 66 (recordOf 0 []) (recordOf 65535 []) d v w (omega (arith, l)) e g
-    ∙ into-over (recordOf 0 [] ++ recordOf 65535 []) d (omega (arith, length-append (recordOf 0 []) (recordOf 65535 []), l, m)))
+    (written-on 66 (recordOf 0 []) (recordOf maxMark []) d v w (omega (arith, l)) e g
+    ∙ into-over (recordOf 0 [] ++ recordOf maxMark []) d (omega (arith, length-append (recordOf 0 []) (recordOf maxMark []), l, m)))

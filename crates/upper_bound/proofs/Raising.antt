@@ -16,7 +16,7 @@ use lib.ListN.{length, take, getD, set, length-append}
 use lib.Seq.{take-suc, set-at, append-snoc, length-take-le}
 use Rattle.model.specs.keys.Key.{Key, maxLen}
 use Rattle.model.specs.keys.Order.{Element, key, max}
-use Rattle.model.specs.records.Record.{recordOf, encode}
+use Rattle.model.specs.records.Record.{maxMark, recordOf, encode}
 use Rattle.model.specs.inner.Written.{clipped}
 use Rattle.model.specs.ranges.UpperBound.{raisedAt, uncommonFrom, ShortestUncommonPrefix}
 use Rattle.model.specs.calls.Refusals.{over}
@@ -105,7 +105,7 @@ module _ (p : Key) (z : ℤ) (small : length p ≤ 64) (e : z ≡ predℤ (pos (
       go zero h w = w
       go (suc j) h w = absurd (false≢true (sym (le-ltb j 0 (omega arith)) ∙ (rw h at t)))
 
-  pub max-stored : (d w : List ℕ) → ltZ (toZ w64 (ofZ w64 z)) (pos 0) ≡ true → w ≡ into (recordOf 65535 (clipped (take 0 p))) d
+  pub max-stored : (d w : List ℕ) → ltZ (toZ w64 (ofZ w64 z)) (pos 0) ≡ true → w ≡ into (recordOf maxMark (clipped (take 0 p))) d
       → w ≡ into (encode (ShortestUncommonPrefix p)) d
   unfolding encode clipped
   max-stored d w t h = rw (none t) h
