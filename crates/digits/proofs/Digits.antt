@@ -9,7 +9,7 @@ use Rattle.model.specs.keys.Key.{Key}
 use Rattle.model.specs.inner.Written.{into}
 use Rattle.model.specs.list.ShelfList.{digit, hex}
 use Rattle.model.proofs.list.Length.{hex-length}
-use Rattle.records.proofs.Writing.{copy-turn, copy-end}
+use Rattle.copies.proofs.Turns.{copy-turn, copy-end}
 
 pub digit-low : (d : ℕ) → d < 10 → 48 + d ≡ digit d
 unfolding digit

@@ -18,10 +18,10 @@ use Rattle.model.specs.declared.Reading.{Reading}
 use Rattle.model.specs.declared.Reading.the-variants as reads
 use Rattle.model.specs.keys.Key.{maxLen}
 use Rattle.model.specs.keys.Order.{Element, key, max, lte, lt, cmp}
-use Rattle.model.specs.records.Record.{recordSize, maxMark, lengthField, allZero, reading, elementReading, keyBytes, element}
+use Rattle.model.specs.records.Record.{maxMark, lengthField, allZero, reading, elementReading, keyBytes, element}
 use Rattle.model.proofs.Lists.{rest}
 use Rattle.model.proofs.keys.Parts.{first-decides, rest-decides, padded-decides, length-decides}
-use Rattle.model.proofs.records.Record.{Read, key-read, max-read}
+use Rattle.model.proofs.records.Record.{key-read, max-read}
 use Rattle.scan.specs.Word.{whole}
 use Rattle.keys.specs.Padded.{Padded, ordered, decided, words, paddedOrder}
 use Rattle.keys.proofs.Elements.{sign-fits, passed-on, told-below}

@@ -15,7 +15,7 @@ use Rattle.model.specs.inner.Written.{clipped, into}
 use Rattle.model.specs.calls.Refusals.{over}
 use Rattle.model.proofs.Lists.{le-or-lt, clipped-all}
 use Rattle.model.proofs.translation.PairState.{length-padded}
-use Rattle.records.proofs.Writing.{copy-turn, copy-end}
+use Rattle.copies.proofs.Turns.{copy-turn, copy-end}
 
 -- what is left of zeros is zeros
 pub drop-zeros : (n k : ℕ) → drop k (zeros n) ≡ zeros (n - k)

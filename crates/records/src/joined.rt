@@ -1,6 +1,6 @@
 // The record of a key in two parts, written in its place: each byte goes to the destination once, after zeros whose
 // number the compiler knows.
-use crate::blocks::join_by_blocks;
+use copies::join_by_blocks;
 use model::MAX_LEN;
 use model::RECORD_SIZE;
 ghost use mathlib.Core.Path.{_≡_};

@@ -1,6 +1,7 @@
 -- `records::record_of` meets its contract.
 use borrow.Author.Needs.{needs}
-use Rattle.records.proofs.Writing.{set-kept, partly, partly-start, partly-turn, partly-end}
+use Rattle.copies.proofs.Turns.{set-kept}
+use Rattle.records.proofs.Writing.{partly, partly-start, partly-turn, partly-end}
 use lib.ListN.{length}
 use mathlib.Core.Path.{_≡_}
 use Prim.Native.Nat.{ℕ, _-_, _≤_}

@@ -1,6 +1,6 @@
 -- `records::store` meets its contract.
 use borrow.Author.Needs.{needs}
-use Rattle.records.proofs.Writing.{set-kept, copy-turn, copy-end}
+use Rattle.copies.proofs.Turns.{set-kept, copy-turn, copy-end}
 use mathlib.Core.List.{_++_}
 use lib.ListN.{length, take, drop}
 use mathlib.Core.Path.{_≡_, refl}

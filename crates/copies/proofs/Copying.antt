@@ -9,7 +9,7 @@ use lib.Seq.{length-take-le, take-all, take-take, take-add, take-append-le, drop
 use Rattle.model.specs.calls.Refusals.{over}
 use Rattle.model.specs.inner.Written.{into}
 use Rattle.model.proofs.Lists.{rest, lent-on, take-min}
-use Rattle.records.proofs.Writing.{copy-turn}
+use Rattle.copies.proofs.Turns.{copy-turn}
 
 -- the first n bytes are there
 pub bytes-copied : (s d₀ d : List ℕ) (i n : ℕ) → d ≡ take i s ++ drop i d₀ → i ≤ n → n ≤ i → n ≤ length s → d ≡ over (take n s) d₀

@@ -1,21 +1,21 @@
--- `records::put_word` meets its contract.
-use Rattle.records.proofs.Writing.{set-kept}
+-- `records::put_block` meets its contract.
+use Rattle.copies.proofs.Turns.{set-kept}
 use mathlib.Core.Path.{_≡_, refl}
 use mathlib.Core.List.{_++_}
 use Prim.Native.Nat.{_-_, _≤_}
 use lib.ListN.{length, take, drop}
 use borrow.Author.Needs.{needs}
-use Rattle.records.proofs.Copying.{block-turn, block-put}
-use Rattle.records.proofs.blocks.put_word.Statement.{statement}
-use Rattle.records.proofs.blocks.put_word.Tie as tie
+use Rattle.copies.proofs.Copying.{block-turn, block-put}
+use Rattle.copies.proofs.blocks.put_block.Statement.{statement}
+use Rattle.copies.proofs.blocks.put_block.Tie as tie
 
 ruleset rules = (needs, set-kept, block-turn, block-put)
 
 abbrev Inv-loop : tie.InvT-loop
-Inv-loop dst₀ word i₀ dst i = (i ≤ 8) × (length word ≡ 8) × (length dst ≡ length dst₀) × (dst ≡ take i word ++ drop i dst₀)
+Inv-loop dst₀ block i₀ dst i = (i ≤ 16) × (length block ≡ 16) × (length dst ≡ length dst₀) × (dst ≡ take i block ++ drop i dst₀)
 
 abbrev μ-loop : tie.MeasureT-loop
-μ-loop dst₀ word i₀ dst i = 8 - i
+μ-loop dst₀ block i₀ dst i = 16 - i
 
 loop-holds : tie.Need-loop-holds Inv-loop μ-loop
 loop-holds c = (search rules, search rules, refl, refl)
@@ -41,8 +41,8 @@ same-length c = search rules
 returns : tie.Need-returns Inv-loop μ-loop
 returns c = search rules
 
-pub put-word-spec : {M : Type 1} → statement M
-put-word-spec =
+pub put-block-spec : {M : Type 1} → statement M
+put-block-spec =
     tie.close
     (tie.spec
     Inv-loop

@@ -1,12 +1,12 @@
 -- `records::copy` meets its contract.
 use borrow.Author.Needs.{needs}
-use Rattle.records.proofs.Writing.{set-kept, copy-turn, copy-end}
+use Rattle.copies.proofs.Turns.{set-kept, copy-turn, copy-end}
 use mathlib.Core.List.{_++_}
 use lib.ListN.{length, take, drop}
 use mathlib.Core.Path.{_≡_, refl}
 use Prim.Native.Nat.{ℕ, _-_, _≤_}
-use Rattle.records.proofs.write.copy.Statement.{statement}
-use Rattle.records.proofs.write.copy.Tie as tie
+use Rattle.copies.proofs.bytes.copy.Statement.{statement}
+use Rattle.copies.proofs.bytes.copy.Tie as tie
 
 abbrev Inv-loop : tie.InvT-loop
 Inv-loop src dst₀ n i₀ dst i = (i ≤ n) × (length dst ≡ length dst₀) × (dst ≡ take i src ++ drop i dst₀)

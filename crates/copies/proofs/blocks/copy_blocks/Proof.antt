@@ -1,9 +1,9 @@
 -- `records::copy_blocks` meets its contract.
 use Prim.Native.Nat.{_-_}
 use borrow.Author.Needs.{needs}
-use Rattle.records.proofs.Copying.{Copied, copy-start, block-room, place-room, copy-on, last-room, last-place, copy-last}
-use Rattle.records.proofs.blocks.copy_blocks.Statement.{statement}
-use Rattle.records.proofs.blocks.copy_blocks.Tie as tie
+use Rattle.copies.proofs.Copying.{Copied, copy-start, block-room, place-room, copy-on, last-room, last-place, copy-last}
+use Rattle.copies.proofs.blocks.copy_blocks.Statement.{statement}
+use Rattle.copies.proofs.blocks.copy_blocks.Tie as tie
 
 ruleset rules = (needs, copy-start, block-room, place-room, copy-on, last-room, last-place, copy-last)
 

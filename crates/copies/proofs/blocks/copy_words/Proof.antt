@@ -1,8 +1,8 @@
 -- `records::copy_words` meets its contract.
-use Rattle.records.proofs.Copying.{two-blocks}
+use Rattle.copies.proofs.Copying.{two-blocks}
 use borrow.Author.Needs.{needs}
-use Rattle.records.proofs.blocks.copy_words.Statement.{statement}
-use Rattle.records.proofs.blocks.copy_words.Tie as tie
+use Rattle.copies.proofs.blocks.copy_words.Statement.{statement}
+use Rattle.copies.proofs.blocks.copy_words.Tie as tie
 
 ruleset rules = (needs, two-blocks)
 

@@ -1,14 +1,14 @@
 -- `records::word_of` meets its contract.
-use Rattle.records.proofs.Writing.{set-kept, copy-turn}
+use Rattle.copies.proofs.Turns.{set-kept, copy-turn}
 use mathlib.Core.Path.{_≡_, refl}
 use mathlib.Core.List.{_++_}
 use Prim.Native.Nat.{_-_, _≤_}
 use lib.ListN.{length, take, drop}
 use Rattle.model.specs.records.Record.{zeros}
 use borrow.Author.Needs.{needs}
-use Rattle.records.proofs.Copying.{block-read}
-use Rattle.records.proofs.blocks.word_of.Statement.{statement}
-use Rattle.records.proofs.blocks.word_of.Tie as tie
+use Rattle.copies.proofs.Copying.{block-read}
+use Rattle.copies.proofs.blocks.word_of.Statement.{statement}
+use Rattle.copies.proofs.blocks.word_of.Tie as tie
 
 ruleset rules = (needs, set-kept, copy-turn, block-read)
 

@@ -1,8 +1,8 @@
 -- `records::copy_by_blocks` meets its contract.
-use Rattle.records.proofs.Copying.{all-copied}
+use Rattle.copies.proofs.Copying.{all-copied}
 use borrow.Author.Needs.{needs}
-use Rattle.records.proofs.blocks.copy_by_blocks.Statement.{statement}
-use Rattle.records.proofs.blocks.copy_by_blocks.Tie as tie
+use Rattle.copies.proofs.blocks.copy_by_blocks.Statement.{statement}
+use Rattle.copies.proofs.blocks.copy_by_blocks.Tie as tie
 
 ruleset rules = (needs, all-copied)
 

@@ -1,5 +1,5 @@
 // Copying by blocks of 16 bytes, and by words of 8.
-use crate::write::copy;
+use crate::bytes::copy;
 ghost use mathlib.Core.Path.{_≡_};
 ghost use mathlib.Core.List.{_++_};
 ghost use Prim.Native.Nat.{_≤_};

@@ -1,8 +1,8 @@
 -- `records::join` meets its contract.
 use Rattle.model.proofs.Lists.{written-on}
 use borrow.Author.Needs.{needs}
-use Rattle.records.proofs.write.join.Statement.{statement}
-use Rattle.records.proofs.write.join.Tie as tie
+use Rattle.copies.proofs.bytes.join.Statement.{statement}
+use Rattle.copies.proofs.bytes.join.Tie as tie
 
 ruleset rules = (needs, written-on)
 

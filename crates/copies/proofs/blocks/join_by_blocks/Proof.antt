@@ -1,8 +1,8 @@
 -- `records::join_by_blocks` meets its contract.
 use Rattle.model.proofs.Lists.{written-on}
 use borrow.Author.Needs.{needs}
-use Rattle.records.proofs.blocks.join_by_blocks.Statement.{statement}
-use Rattle.records.proofs.blocks.join_by_blocks.Tie as tie
+use Rattle.copies.proofs.blocks.join_by_blocks.Statement.{statement}
+use Rattle.copies.proofs.blocks.join_by_blocks.Tie as tie
 
 ruleset rules = (needs, written-on)
 
