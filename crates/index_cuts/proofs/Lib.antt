@@ -1,4 +1,2 @@
-pub mod Places
-pub mod Room
 pub mod Refused
 pub mod Sides

@@ -33,7 +33,7 @@ use Rattle.model.proofs.calls.TableCalls.{causes-most}
 use Rattle.model.proofs.calls.BucketCalls.{bucket-whole, bucket-most}
 use Rattle.model.proofs.calls.IndexCauses.{entries-pivots, entries-wf, entries-bucket, entries-rise, given-entries, given-index, given-length}
 use Rattle.model.proofs.buckets.IndexCuts.{index-left, index-right, places-take, places-drop, from-count, below-inside, below-bytes, from-bytes}
-use Rattle.index_cuts.specs.Beside.{placeBeside}
+use Rattle.index_writes.specs.Beside.{placeBeside}
 
 -- e are the bytes of the side's entries, and the places of y become its index
 pub record Side (left : Bool) (p l k : List ℕ) (n : ℕ) (e y : List ℕ) : Type 0 where

@@ -1,5 +1,5 @@
 // The cut on the left and on the right.
-use crate::write::write_side;
+use index_writes::write_side;
 use model::Answer;
 use model::ENTRY_SIZE;
 use model::MAX_LEN;

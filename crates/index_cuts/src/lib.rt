@@ -1,6 +1,5 @@
 // A bucket and its index, cut with the table. No public function has a `requires`.
 mod cut;
-mod write;
 
 pub use cut::cut_index_left;
 pub use cut::cut_index_right;

@@ -1,4 +1,3 @@
-pub mod Filled
 pub mod KeyPass
 pub mod NewPivots
 pub mod GivenEnd

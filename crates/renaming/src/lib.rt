@@ -1,7 +1,7 @@
-// Pivots and edges under another prefix. No public function has a `requires`.
+// Pivots and edges under another prefix: the edges' call, of a crate of its own, is handed on. No public function has a
+// `requires`.
 mod change;
-mod edges;
 mod pivots;
 
-pub use edges::translate_edges;
+pub use filled_edges::translate_edges;
 pub use pivots::translate_pivots;

@@ -1,4 +1,2 @@
-pub mod Ends
-pub mod Fitting
 pub mod Getting
 pub mod Starting
