@@ -1,9 +1,9 @@
 -- What a cut in a slot answers and writes.
 use mathlib.Core.Path.{_≡_, refl, sym, _∙_}
 use mathlib.Core.Bool.{Bool, true, false}
-use mathlib.Core.List.{List, [], _++_, append-nil}
+use mathlib.Core.List.{List, _++_, append-nil}
 use mathlib.Core.Option.{none}
-use Prim.Native.Nat.{ℕ, _+_, _*_, _-_, _≤_}
+use Prim.Native.Nat.{ℕ, _+_, _*_, _-_}
 use native.Mathlib.Omega.{arith}
 use mir.Syntax.{w8}
 use mir.Val.{Fits}
@@ -11,7 +11,7 @@ use lib.ListN.{length, take, drop, getD}
 use Rattle.model.specs.declared.Refusal.{Refusal}
 use Rattle.model.specs.declared.Answer.{Answer}
 use Rattle.model.specs.declared.Answer.the-variants as answers
-use Rattle.model.specs.records.Record.{recordSize, elements, recordOf, encodeEdge, encodeAll, encodeEdges}
+use Rattle.model.specs.records.Record.{elements, recordOf, encodeEdge, encodeAll, encodeEdges}
 use Rattle.model.specs.inner.Written.{clipped}
 use Rattle.model.specs.tables.Tables.{all, shortEdge}
 use Rattle.model.specs.cuts.Sides.{inside, cutoff}
@@ -24,8 +24,9 @@ use Rattle.model.proofs.records.Record.{length-encodeEdge}
 use Rattle.model.proofs.keys.Key.{bytes-of}
 use Rattle.model.proofs.calls.CutCalls.{cut-key, cut-short, cut-pivots-bytes, cut-edges-bytes}
 use Rattle.model.proofs.calls.CutPlaces.{next-place}
-use Rattle.slot_edges.specs.Slot.{edgeCut, longEdgeCauses}
+use Rattle.slot_edges.specs.Slot.{slotEdgeAnswer, slotEdgeLeaves, edgeCut, longEdgeCauses}
 use Rattle.slot_edges.proofs.Edges.{edge-taken}
+use Rattle.slot_edges.proofs.Slots.{slot-edge-answer, slot-edge-left}
 
 module _ (left : Bool) (p e k : List ℕ) (c : ℕ) (h : first (edgeSlotCauses p e k (inside left (elements p) k)) ≡ none)
     (f : c ≡ cutoff left (elements p) k) where
@@ -62,18 +63,22 @@ module _ (left : Bool) (p e k : List ℕ) (h : first (edgeSlotCauses p e k (insi
   edges-short s = only-cut ∙ s
 
 -- what making it answers, and leaves in the room of a record
-module _ (left : Bool) (p e k : List ℕ) (z : Answer) (q : z ≡ answer (longEdgeCauses (edgeCut left p e k)) 1) where
-  pub edge-short : (m : ℕ) → z ≡ answers.Value m → shortEdge (edgeCut left p e k) ≡ true
-  edge-short m r = edge-taken (edgeCut left p e k) z q m r
+module _ (left : Bool) (p e k : List ℕ) (c : ℕ) (z : Answer) (q : z ≡ slotEdgeAnswer left p e k c)
+    (h : first (edgeSlotCauses p e k (inside left (elements p) k)) ≡ none) (f : c ≡ cutoff left (elements p) k)
+    (s : (i : ℕ) → Fits w8 (getD p i 0)) (t : (i : ℕ) → Fits w8 (getD k i 0)) where
+  told : z ≡ answer (longEdgeCauses (edgeCut left p e k)) 1
+  told = slot-edge-answer left p e k c z q h f s t
 
-  pub edge-made : (m : ℕ) → z ≡ answers.Value m → (v room : List ℕ)
-      → v ≡ leaves (longEdgeCauses (edgeCut left p e k)) (encodeEdge (edgeCut left p e k)) room → length room ≡ 66 → v ≡ encodeEdge (edgeCut left p e k)
-  edge-made m r v room u t =
-      let i = length-encodeEdge (edgeCut left p e k) (edge-short m r) in
-      u ∙ sym (passed (λ (_ : Refusal). room) _ _ _ (accepted _ 1 z q m r) refl)
-      ∙ over-all (encodeEdge (edgeCut left p e k)) room (omega (arith, i, t))
+  pub edge-made : (m : ℕ) → z ≡ answers.Value m → ((i : ℕ) → Fits w8 (getD e i 0)) → (v room : List ℕ) → v ≡ slotEdgeLeaves left p e k c room
+      → length room ≡ 66 → (shortEdge (edgeCut left p e k) ≡ true) × (v ≡ encodeEdge (edgeCut left p e k))
+  edge-made m r b v room u n =
+      let short = edge-taken (edgeCut left p e k) z told m r in
+      let i = length-encodeEdge (edgeCut left p e k) short in
+      let whole = over-all (encodeEdge (edgeCut left p e k)) room (omega (arith, i, n)) in
+      let made = passed (λ (_ : Refusal). room) _ _ _ (accepted _ 1 z told m r) refl in
+      (short, slot-edge-left left p e k c v room u h f s t b (omega (arith, n)) ∙ sym made ∙ whole)
 
-  pub edge-refused : {A : Type 0} (g : Refusal → A) (v x : A) (dp de : List ℕ) → first (edgeSlotCauses p e k (inside left (elements p) k)) ≡ none
-      → (y : Refusal) → z ≡ answers.Refused y → x ≡ g y → x ≡ outcome g (writeCauses (cutPivots left p k) (cutEdges left p e k) dp de) v
-  edge-refused g v x dp de h y r w =
-      rw (only-cut left p e k h) (refused-first g v x (longEdgeCauses (edgeCut left p e k)) _ y (refused _ 1 z q y r) w)
+  pub edge-refused : {A : Type 0} (g : Refusal → A) (v x : A) (dp de : List ℕ) (y : Refusal) → z ≡ answers.Refused y → x ≡ g y
+      → x ≡ outcome g (writeCauses (cutPivots left p k) (cutEdges left p e k) dp de) v
+  edge-refused g v x dp de y r w =
+      rw (only-cut left p e k h) (refused-first g v x (longEdgeCauses (edgeCut left p e k)) _ y (refused _ 1 z told y r) w)

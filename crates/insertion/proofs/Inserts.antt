@@ -14,12 +14,12 @@ use Rattle.model.specs.declared.Refusal.{Refusal}
 use Rattle.model.specs.declared.Refusal.the-variants.{TooLong}
 use Rattle.model.specs.declared.Answer.{Answer}
 use Rattle.model.specs.declared.Answer.the-variants as answers
-use Rattle.model.specs.records.Record.{elements, recordOf, encodeEdge, encodeAll, encodeEdges}
+use Rattle.model.specs.records.Record.{recordSize, elements, recordOf, encodeEdge, encodeAll, encodeEdges}
 use Rattle.model.specs.declared.Routed.{Routed}
 use Rattle.model.specs.declared.Routed.the-variants as routed
 use Rattle.model.specs.inner.Written.{clipped}
 use Rattle.model.specs.tables.Tables.{all, shortEdge, Route}
-use Rattle.model.specs.calls.Refusals.{outcome, first, answer, routing, leaves, over}
+use Rattle.model.specs.calls.Refusals.{outcome, first, answer, routing, over}
 use Rattle.model.specs.cuts.Sides.{inside, cutoff}
 use Rattle.model.specs.calls.TableCalls.{edgeSlotCauses}
 use Rattle.model.specs.calls.CutCalls.{writeCauses}
@@ -30,8 +30,9 @@ use Rattle.model.proofs.records.Record.{length-encodeEdge}
 use Rattle.model.proofs.keys.Key.{both, bytes-of}
 use Rattle.model.proofs.calls.InsertionCalls.{insert-found, insert-cutoff, insert-key, insert-pivots-bytes, insert-edges-bytes, insert-short, insert-half-long}
 use Rattle.model.proofs.calls.CutPlaces.{next-place}
-use Rattle.slot_edges.specs.Slot.{edgeCut, longEdgeCauses}
+use Rattle.slot_edges.specs.Slot.{slotEdgeAnswer, slotEdgeLeaves, edgeCut, longEdgeCauses}
 use Rattle.slot_edges.proofs.Edges.{edge-taken}
+use Rattle.slot_edges.proofs.Slots.{slot-edge-answer, slot-edge-left}
 use Rattle.insertion.specs.New.{edgesCut, longEdges}
 
 module _ (p e k : List ℕ) (c : ℕ) (h : first (newPivotCauses p e k) ≡ none) (f : c ≡ Route (elements p) k) where
@@ -79,31 +80,37 @@ module _ (p e k : List ℕ) (h : first (newPivotCauses p e k) ≡ none) where
   short-halves f true = both _ _ (sym only-halves ∙ f) .0
   short-halves f false = both (shortEdge (edgeCut true p e k)) _ (sym only-halves ∙ f) .1
 
+-- what making them answers
+module _ (p e k : List ℕ) (c : ℕ) (h : first (newPivotCauses p e k) ≡ none) (f : c ≡ Route (elements p) k)
+    (s : (i : ℕ) → Fits w8 (getD p i 0)) (t : (i : ℕ) → Fits w8 (getD k i 0)) where
+  half-answer : (left : Bool) (z : Answer) → z ≡ slotEdgeAnswer left p e k c → z ≡ answer (longEdgeCauses (edgeCut left p e k)) 1
+  half-answer left z q = slot-edge-answer left p e k c z q (insert-found p e k h left) (f ∙ insert-cutoff p e k h left) s t
+
   module _ (z : Answer) where
     -- a long one ends the insertion
-    module _ (left : Bool) (q : z ≡ answer (longEdgeCauses (edgeCut left p e k)) 1) (y : Refusal) (r : z ≡ answers.Refused y) where
+    module _ (left : Bool) (q : z ≡ slotEdgeAnswer left p e k c) (y : Refusal) (r : z ≡ answers.Refused y) where
       half-is-long : shortEdge (edgeCut left p e k) ≡ false
       unfolding outcome
       half-is-long = go (shortEdge (edgeCut left p e k)) refl
         where
           go : (b : Bool) → shortEdge (edgeCut left p e k) ≡ b → b ≡ false
           go true b =
-              let i : none ≡ some y = rw b at (refused (longEdgeCauses (edgeCut left p e k)) 1 z q y r) in
+              let i : none ≡ some y = rw b at (refused (longEdgeCauses (edgeCut left p e k)) 1 z (half-answer left z q) y r) in
               let n : _≡_ {A = ℕ} 0 1 = cc in absurd (omega arith)
           go false b = refl
 
       pub half-refused : z ≡ answer (longEdges (insertedEdges p e k)) 1
       unfolding outcome
-      half-refused = q ∙ rw (half-is-long, half-long left half-is-long)
+      half-refused = half-answer left z q ∙ rw (half-is-long, half-long p e k h left half-is-long)
 
-      pub half-unmade : (w v : List ℕ) → all shortEdge (insertedEdges p e k) ≡ true → w ≡ v
-      half-unmade w v f = absurd (true≢false (sym f ∙ half-long left half-is-long))
+      pub half-unmade : (w : List ℕ) → all shortEdge (insertedEdges p e k) ≡ true → w ≡ edgesCut p e k
+      half-unmade w g = absurd (true≢false (sym g ∙ half-long p e k h left half-is-long))
 
     -- beside a short one the other decides
-    pub second-half : (a : Answer) (i : ℕ) → a ≡ answer (longEdgeCauses (edgeCut true p e k)) 1 → a ≡ answers.Value i
-        → z ≡ answer (longEdgeCauses (edgeCut false p e k)) 1 → z ≡ answer (longEdges (insertedEdges p e k)) 1
+    pub second-half : (a : Answer) (i : ℕ) → a ≡ slotEdgeAnswer true p e k c → a ≡ answers.Value i → z ≡ slotEdgeAnswer false p e k c
+        → z ≡ answer (longEdges (insertedEdges p e k)) 1
     unfolding outcome
-    second-half a i f g q = q ∙ rw (only-halves, edge-taken (edgeCut true p e k) a f i g)
+    second-half a i g r q = half-answer false z q ∙ rw (only-halves p e k h, edge-taken (edgeCut true p e k) a (half-answer true a g) i r)
 
 -- ---- what the edges of the halves answer
 
@@ -119,20 +126,26 @@ module _ (p e k : List ℕ) (z : Answer) (q : z ≡ answer (longEdges (insertedE
 
 -- ---- both made, one after the other
 
-module _ (p e k made one two : List ℕ) (h : first (newPivotCauses p e k) ≡ none) (n : length made ≡ 132) where
-  pub both-made : one ≡ leaves (longEdgeCauses (edgeCut true p e k)) (encodeEdge (edgeCut true p e k)) made
-      → two ≡ leaves (longEdgeCauses (edgeCut false p e k)) (encodeEdge (edgeCut false p e k)) (take (length one - 66) (drop 66 one))
-      → all shortEdge (insertedEdges p e k) ≡ true → putMid 66 (length one - 66) one two ≡ edgesCut p e k
+module _ (p e k : List ℕ) (c : ℕ) (h : first (newPivotCauses p e k) ≡ none) (f : c ≡ Route (elements p) k)
+    (s : (i : ℕ) → Fits w8 (getD p i 0)) (t : (i : ℕ) → Fits w8 (getD k i 0)) (x : (i : ℕ) → Fits w8 (getD e i 0)) where
+  half-left : (left : Bool) (w made : List ℕ) → w ≡ slotEdgeLeaves left p e k c made → recordSize ≤ length made
+      → shortEdge (edgeCut left p e k) ≡ true → w ≡ over (encodeEdge (edgeCut left p e k)) made
   unfolding outcome
-  both-made u v f =
+  half-left left w made q m b =
+      rw b at (slot-edge-left left p e k c w made q (insert-found p e k h left) (f ∙ insert-cutoff p e k h left) s t x m)
+
+  pub both-made : (made one two : List ℕ) → length made ≡ 132 → one ≡ slotEdgeLeaves true p e k c made
+      → two ≡ slotEdgeLeaves false p e k c (take (length one - 66) (drop 66 one)) → all shortEdge (insertedEdges p e k) ≡ true
+      → putMid 66 (length one - 66) one two ≡ edgesCut p e k
+  both-made made one two n u v g =
       let left = edgeCut true p e k in
       let right = edgeCut false p e k in
-      let s = short-halves p e k h f in
-      let size = length-encodeEdge left (s true) in
-      let head : one ≡ over (encodeEdge left) made = rw (s true) at u in
+      let b = short-halves p e k h g in
+      let size = length-encodeEdge left (b true) in
+      let head = half-left true one made u (omega (arith, n)) (b true) in
       let whole : length one ≡ 132 = rw head (omega (arith, n, length-over (encodeEdge left) made (omega arith))) in
       let kept : take 66 one ≡ encodeEdge left = rw (head, ← size) (take-over (encodeEdge left) made) in
-      let m : length (take (length one - 66) (drop 66 one)) ≤ length (encodeEdge right) =
-      rw (rest one 66, length-drop 66 one, length-encodeEdge right (s false)) (omega arith)
-      in
-      lent-on 66 one two ∙ rw (kept, v, s false, over-all (encodeEdge right) (take (length one - 66) (drop 66 one)) m)
+      let m : length (take (length one - 66) (drop 66 one)) ≡ 66 = rw (rest one 66, length-drop 66 one) (omega arith) in
+      let tail = half-left false two (take (length one - 66) (drop 66 one)) v (omega (arith, m)) (b false) in
+      let all-of = over-all (encodeEdge right) (take (length one - 66) (drop 66 one)) (omega (arith, m, length-encodeEdge right (b false))) in
+      lent-on 66 one two ∙ rw (kept, tail, all-of)

@@ -1,138 +1,150 @@
 -- The edge of a range whose prefix grows, made as a record.
 use mathlib.Core.Path.{_≡_, refl, sym, ap, _∙_}
-use mathlib.Core.Bool.{true}
+use mathlib.Core.Bool.{Bool, true, false, cond, not}
 use mathlib.Core.List.{List, []}
-use mathlib.Core.Option.{none, some}
 use mathlib.Core.Logic.{⊎-elim}
 use Prim.Native.Nat.{ℕ, _≤_, _<_}
 use native.Mathlib.Omega.{arith}
-use mir.Syntax.{w8, w16}
+use mir.Syntax.{w16}
 use mir.Val.{Fits}
 use borrow.Author.Tests.{le-leb, lt-leb, le-ltb, lt-ltb, leb-true, not-false}
-use lib.ListN.{length, take, getD}
+use lib.ListN.{length, take}
 use Rattle.model.specs.declared.Refusal.{Refusal}
 use Rattle.model.specs.declared.Refusal.the-variants.{TooLong}
 use Rattle.model.specs.declared.Answer.{Answer}
 use Rattle.model.specs.declared.Answer.the-variants as answers
 use Rattle.model.specs.declared.EdgeKind.{EdgeKind}
 use Rattle.model.specs.declared.EdgeKind.the-variants as kinds
-use Rattle.model.specs.keys.Key.{changePrefix}
-use Rattle.model.specs.records.Record.{Edge, edge, noEdge, keyBytes, edgeOf, recordOf, encodeEdge}
+use Rattle.model.specs.keys.Key.{Key, maxLen, IsPrefix, changePrefix}
+use Rattle.model.specs.records.Record.{Edge, edge, noEdge, recordSize, keyBytes, edgeOf, zeros, recordOf, encodeEdge}
 use Rattle.model.specs.inner.EdgeKinds.{edgeKind}
 use Rattle.model.specs.inner.Written.{clipped, into}
 use Rattle.model.specs.tables.Tables.{shortEdge}
 use Rattle.model.specs.cuts.Cuts.{cutEdge}
 use Rattle.model.specs.calls.KeyCalls.{sizeCauses, changePrefixCauses, changePrefixAnswer, changePrefixLeaves}
-use Rattle.model.specs.calls.Refusals.{outcome, first, answer, leaves}
+use Rattle.model.specs.calls.Refusals.{outcome, answer, leaves, over}
 use Rattle.model.proofs.Lists.{into-over, clipped-all, le-or-lt}
-use Rattle.model.proofs.keys.Key.{bytes-of}
-use Rattle.model.proofs.calls.Refusals.{refused-by, passed, accepted, refused, none-here}
+use Rattle.model.proofs.calls.Refusals.{accepted, none-here, handed-on, call-passed}
 use Rattle.model.proofs.calls.KeyCalls.{only-sizes, change-counts, change-most, change-head, change-inside}
-use Rattle.model.proofs.records.Record.{length-record, short-edge, encode-edge, absent-edge, prefix-edge}
-use Rattle.slot_edges.specs.Slot.{Growing, longEdgeCauses}
+use Rattle.model.proofs.records.Record.{length-encodeEdge, absent-edge, prefix-edge}
+use Rattle.slot_edges.specs.Slot.{grownCauses, grownRecord, grownAnswer, grownLeaves, longEdgeCauses}
 
 -- a cut edge that isn't refused is short
 pub edge-taken : (x : Edge) (z : Answer) → z ≡ answer (longEdgeCauses x) 1 → (m : ℕ) → z ≡ answers.Value m → shortEdge x ≡ true
 edge-taken x z q m r = not-false _ (none-here _ TooLong [] (accepted (longEdgeCauses x) 1 z q m r))
 
--- ---- a record that is no prefix
+-- ---- a record that is no prefix is copied
 
-module _ (r p q made : List ℕ) (t : EdgeKind) (e : t ≡ edgeKind r) (g : t ≡ kinds.Absent) where
-  none-is : cutEdge p q (edgeOf r) ≡ noEdge
-  unfolding cutEdge
-  none-is = rw (absent-edge r t e g)
+module _ (r p q : List ℕ) (t : EdgeKind) (e : t ≡ edgeKind r) (g : t ≡ kinds.Absent) where
+  pub absent-answer : answers.Value 1 ≡ grownAnswer p q r
+  unfolding grownAnswer outcome
+  absent-answer = rw (absent-edge r t e g)
 
-  pub none-answer : Growing p q r made → answers.Value 1 ≡ answer (longEdgeCauses (cutEdge p q (edgeOf r))) 1
-  unfolding outcome
-  none-answer s = rw none-is
+  pub absent-left : (w made : List ℕ) → w ≡ into r made → w ≡ grownLeaves p q r made
+  unfolding grownLeaves outcome
+  absent-left w made f = rw (absent-edge r t e g) f
 
-  -- it is the record of its edge, and copied
-  pub none-made : (w : List ℕ) → ((i : ℕ) → Fits w8 (getD r i 0)) → w ≡ into r made → Growing p q r made
-      → w ≡ leaves (longEdgeCauses (cutEdge p q (edgeOf r))) (encodeEdge (cutEdge p q (edgeOf r))) made
-  unfolding outcome
-  none-made w b f s =
-      let same : encodeEdge noEdge ≡ r = rw (absent-edge r t e g) at (encode-edge r (bytes-of r b) (s .size) (s .read)) in
-      rw (none-is, same) (f ∙ into-over r made (omega (arith, s .size, s .room)))
+-- ---- a prefix is changed, in 64 bytes
 
--- ---- a prefix, changed
-
--- what is written into 64 bytes has room where it is not too long
-only-long : {A : Type 0} (f : Refusal → A) (v : A) (k room : List ℕ) → length room ≡ 64
-    → outcome f (sizeCauses k room) v ≡ outcome f (longEdgeCauses (edge k)) v
-unfolding outcome
-only-long f v k room x =
-    ⊎-elim (λ (h : length k ≤ 64). rw (x, le-ltb 64 (length k) h, le-leb (length k) 64 h))
-    (λ (h : 64 < length k). rw (lt-ltb 64 (length k) h, lt-leb (length k) 64 h)) (le-or-lt (length k) 64)
+-- of the room only its length counts
+room-counts : (p q b room : List ℕ) → length room ≡ 64 → changePrefixCauses q p b room ≡ changePrefixCauses q p b (zeros maxLen)
+room-counts p q b room x = rw x
 
 module _ (a : Answer) (r p q b room w : List ℕ) (h : a ≡ changePrefixAnswer q p b room) (k : w ≡ changePrefixLeaves q p b room)
     (u : b ≡ keyBytes r) (x : length room ≡ 64) where
-  change : a ≡ changePrefixAnswer q p (keyBytes r) room
-  change = rw u at h
-
-  left : w ≡ changePrefixLeaves q p (keyBytes r) room
-  left = rw u at k
-
-  -- ---- what is known of it in any case
+  -- ---- what is known of it whatever the record
 
   module _ (n : ℕ) (f : a ≡ answers.Value n) where
-    counts : n ≡ length (changePrefix p (keyBytes r) q)
-    counts = change-counts q p (keyBytes r) room a change n f
+    counts : n ≡ length (changePrefix p b q)
+    counts = change-counts q p b room a h n f
 
     at-most : n ≤ 64
-    at-most = change-most q p (keyBytes r) room a change n f
+    at-most = change-most q p b room a h n f
 
-    made-of : take n w ≡ changePrefix p (keyBytes r) q
-    made-of = change-head q p (keyBytes r) room a change n f w left
+    made-of : take n w ≡ changePrefix p b q
+    made-of = change-head q p b room a h n f w k
 
     pub made-fits : Fits w16 n
     made-fits = record { fits = omega (arith, at-most) }
 
     pub made-inside : n ≤ length w
-    made-inside = change-inside q p (keyBytes r) room a change n f w left (omega (arith, x))
+    made-inside = change-inside q p b room a h n f w k (omega (arith, x))
 
     pub made-counts : n ≡ length (take n w)
     made-counts = counts ∙ ap length (sym made-of)
 
-  -- ---- of its causes only 8 may apply where the prefix grows
+  -- ---- its causes are those of the cut edge
 
-  module _ (t : EdgeKind) (e : t ≡ edgeKind r) (v : ℕ) (g : t ≡ kinds.Prefix v) (made : List ℕ) where
-    some-is : edgeOf r ≡ edge (keyBytes r)
-    some-is = prefix-edge r t e v g
+  module _ (t : EdgeKind) (e : t ≡ edgeKind r) (v : ℕ) (g : t ≡ kinds.Prefix v) where
+    edge-is : edgeOf r ≡ edge b
+    edge-is = prefix-edge r t e v g ∙ ap edge (sym u)
 
-    cut-is : cutEdge p q (edgeOf r) ≡ edge (changePrefix p (keyBytes r) q)
-    unfolding cutEdge
-    cut-is = rw some-is
-
-    changed : Growing p q r made → a ≡ answer (longEdgeCauses (cutEdge p q (edgeOf r))) (length (changePrefix p (keyBytes r) q))
-    changed s =
-        let short : length (keyBytes r) ≤ 64 = leb-true (length (keyBytes r)) 64 (rw some-is at (short-edge r (s .read))) in
-        let n = length (changePrefix p (keyBytes r) q) in
-        change ∙ only-sizes answers.Refused (answers.Value n) q p (keyBytes r) room (s .short) short (s .grows)
-        ∙ rw cut-is (only-long answers.Refused (answers.Value n) (changePrefix p (keyBytes r) q) room x)
+    caused : a ≡ answer (grownCauses p q (edgeOf r)) (length (changePrefix p b q))
+    caused = h ∙ rw (edge-is, room-counts p q b room x)
 
     module _ (y : Refusal) (f : a ≡ answers.Refused y) where
-      long : Growing p q r made → first (longEdgeCauses (cutEdge p q (edgeOf r))) ≡ some y
-      long s = refused (longEdgeCauses (cutEdge p q (edgeOf r))) _ a (changed s) y f
+      pub long-answer : a ≡ grownAnswer p q r
+      unfolding grownAnswer
+      long-answer = handed-on _ _ a caused answers.Refused (answers.Value 1) a y f f
 
-      pub long-answer : Growing p q r made → a ≡ answer (longEdgeCauses (cutEdge p q (edgeOf r))) 1
-      long-answer s = refused-by answers.Refused (answers.Value 1) a _ y (long s) f
-
-      pub long-kept : Growing p q r made → made ≡ leaves (longEdgeCauses (cutEdge p q (edgeOf r))) (encodeEdge (cutEdge p q (edgeOf r))) made
-      long-kept s = refused-by (λ (_ : Refusal). made) _ made _ y (long s) refl
+      pub long-kept : (made : List ℕ) → made ≡ grownLeaves p q r made
+      unfolding grownLeaves
+      long-kept made = handed-on _ _ a caused (λ (_ : Refusal). made) _ made y f refl
 
     module _ (n : ℕ) (f : a ≡ answers.Value n) where
-      fits : Growing p q r made → first (longEdgeCauses (cutEdge p q (edgeOf r))) ≡ none
-      fits s = accepted (longEdgeCauses (cutEdge p q (edgeOf r))) _ a (changed s) n f
+      pub made-answer : answers.Value 1 ≡ grownAnswer p q r
+      unfolding grownAnswer
+      made-answer = call-passed _ _ a caused answers.Refused (answers.Value 1) (answers.Value 1) n f refl
 
-      pub made-answer : Growing p q r made → answers.Value 1 ≡ answer (longEdgeCauses (cutEdge p q (edgeOf r))) 1
-      made-answer s = passed answers.Refused (answers.Value 1) (answers.Value 1) _ (fits s) refl
+      written : recordOf n (clipped (take n w)) ≡ grownRecord p q r (edgeOf r)
+      unfolding encodeEdge cutEdge
+      written =
+          let c : clipped (take n w) ≡ changePrefix p b q = rw (made-of n f) (clipped-all _ (omega (arith, counts n f, at-most n f))) in
+          rw (c, edge-is, ← counts n f)
 
-      pub made-written : (o : List ℕ) → o ≡ into (recordOf n (clipped (take n w))) made → Growing p q r made
-          → o ≡ leaves (longEdgeCauses (cutEdge p q (edgeOf r))) (encodeEdge (cutEdge p q (edgeOf r))) made
-      unfolding encodeEdge
-      made-written o y s =
-          let z : length (changePrefix p (keyBytes r) q) ≤ 64 = omega (arith, counts n f, at-most n f) in
-          let c : clipped (take n w) ≡ changePrefix p (keyBytes r) q = rw (made-of n f) (clipped-all _ z) in
-          passed (λ (_ : Refusal). made) _ o _ (fits s)
-          (y ∙ rw (c, cut-is, counts n f)
-          (into-over _ made (omega (arith, s .room, length-record (length (changePrefix p (keyBytes r) q)) (changePrefix p (keyBytes r) q) z))))
+      pub made-left : (o made : List ℕ) → o ≡ into (recordOf n (clipped (take n w))) made → o ≡ grownLeaves p q r made
+      unfolding grownLeaves
+      made-left o made y = call-passed _ _ a caused (λ (_ : Refusal). made) _ o n f (y ∙ rw written)
+
+-- ---- where the prefix grows, and the record is that of its edge, only 8 may apply
+
+-- what is written into 64 bytes has room where it is not too long
+only-long : {A : Type 0} (f : Refusal → A) (v : A) (k : Key) → outcome f (sizeCauses k (zeros maxLen)) v ≡ outcome f (longEdgeCauses (edge k)) v
+unfolding outcome
+only-long f v k =
+    ⊎-elim (λ (h : length k ≤ 64). rw (le-ltb 64 (length k) h, le-leb (length k) 64 h))
+    (λ (h : 64 < length k). rw (lt-ltb 64 (length k) h, lt-leb (length k) 64 h)) (le-or-lt (length k) 64)
+
+module _ (p q : Key) (g : IsPrefix p q ≡ true) (l : length q ≤ maxLen) where
+  grown-long : {A : Type 0} (f : Refusal → A) (v : A) (x : Edge) → shortEdge x ≡ true
+      → outcome f (grownCauses p q x) v ≡ outcome f (longEdgeCauses (cutEdge p q x)) v
+  unfolding cutEdge
+  grown-long f v (edge b) s = only-sizes f v q p b (zeros maxLen) l (leb-true (length b) maxLen s) g ∙ only-long f v (changePrefix p b q)
+  grown-long f v noEdge s = unfold outcome in refl
+
+-- a short edge has room
+room-made : (d : List ℕ) (x : Edge) → recordSize ≤ length d
+    → outcome (λ (_ : Refusal). d) (longEdgeCauses x) (into (encodeEdge x) d) ≡ leaves (longEdgeCauses x) (encodeEdge x) d
+unfolding outcome
+room-made d x h = go (shortEdge x) refl
+  where
+    go : (b : Bool) → shortEdge x ≡ b → cond (not b) d (into (encodeEdge x) d) ≡ cond (not b) d (over (encodeEdge x) d)
+    go true b = into-over (encodeEdge x) d (omega (arith, length-encodeEdge x b, h))
+    go false b = refl
+
+same-record : (p q : Key) (r : List ℕ) (x : Edge) → encodeEdge x ≡ r → grownRecord p q r x ≡ encodeEdge (cutEdge p q x)
+unfolding cutEdge
+same-record p q r (edge b) h = refl
+same-record p q r noEdge h = sym h
+
+module _ (p q r : List ℕ) (g : IsPrefix p q ≡ true) (l : length q ≤ maxLen) (s : shortEdge (edgeOf r) ≡ true) where
+  pub grown-answer : grownAnswer p q r ≡ answer (longEdgeCauses (cutEdge p q (edgeOf r))) 1
+  unfolding grownAnswer
+  grown-answer = grown-long p q g l answers.Refused (answers.Value 1) (edgeOf r) s
+
+  pub grown-left : (made : List ℕ) → encodeEdge (edgeOf r) ≡ r → recordSize ≤ length made
+      → grownLeaves p q r made ≡ leaves (longEdgeCauses (cutEdge p q (edgeOf r))) (encodeEdge (cutEdge p q (edgeOf r))) made
+  unfolding grownLeaves
+  grown-left made h m =
+      rw (same-record p q r (edgeOf r) h)
+      (grown-long p q g l (λ (_ : Refusal). made) _ (edgeOf r) s ∙ room-made made (cutEdge p q (edgeOf r)) m)

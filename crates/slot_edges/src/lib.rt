@@ -3,18 +3,13 @@ use model::Answer;
 use model::EdgeKind;
 use model::MAX_LEN;
 ghost use mathlib.Core.Path.{_≡_};
-ghost use Prim.Native.Nat.{_≤_};
-ghost use lib.ListN.{length};
-ghost use Rattle.model.specs.records.Record.{recordSize, edgeOf, encodeEdge};
-ghost use Rattle.model.specs.cuts.Cuts.{cutEdge};
-ghost use Rattle.model.specs.calls.Refusals.{answer, leaves};
-ghost use Rattle.slot_edges.specs.Slot.{Growing, Found, edgeCut, longEdgeCauses};
+ghost use Rattle.slot_edges.specs.Slot.{grownAnswer, grownLeaves, slotEdgeAnswer, slotEdgeLeaves};
 
 // The edge where its range's prefix grows from old to new, as a record at the head of made: a prefix followed by what
-// new has beyond old, and a record that is none as it is. Answers 1. Refuses 8.
+// new has beyond old, and a record that is none as it is. Answers 1. Refuses 2, 7 and 8.
 fn cut_edge(edge: &[u8], old: &[u8], new: &[u8], made: &mut [u8]) -> Answer
-    ensures answered { λ r. ⌜ (Growing (now (old .entry)) (now (new .entry)) (now (edge .entry)) (now (made .entry)) → r ≡ answer (longEdgeCauses (cutEdge (now (old .entry)) (now (new .entry)) (edgeOf (now (edge .entry))))) 1) ⌝ }
-    ensures written { λ r. ⌜ (Growing (now (old .entry)) (now (new .entry)) (now (edge .entry)) (now (made .entry)) → now (made .exit) ≡ leaves (longEdgeCauses (cutEdge (now (old .entry)) (now (new .entry)) (edgeOf (now (edge .entry))))) (encodeEdge (cutEdge (now (old .entry)) (now (new .entry)) (edgeOf (now (edge .entry))))) (now (made .entry))) ⌝ }
+    ensures answered { λ r. ⌜ r ≡ grownAnswer (now (old .entry)) (now (new .entry)) (now (edge .entry)) ⌝ }
+    ensures written { λ r. ⌜ now (made .exit) ≡ grownLeaves (now (old .entry)) (now (new .entry)) (now (edge .entry)) (now (made .entry)) ⌝ }
 {
     match records::edge_kind(edge) {
         EdgeKind::Prefix(_) => {
@@ -33,8 +28,8 @@ fn cut_edge(edge: &[u8], old: &[u8], new: &[u8], made: &mut [u8]) -> Answer
     }
 }
 
-// The edge of slot c, cut to what a cut at the key leaves of the slot, where none of the cut's causes 1 to 5 applies.
-// Answers 1. Refuses 8.
+// The edge of slot c, cut to what a cut at the key leaves of the slot, as a record at the head of made. Answers 1.
+// Refuses 2, 7 and 8, but only 8 where none of the cut's causes 1 to 5 applies and c is its slot.
 pub fn slot_edge(
     pivots: &[u8],
     edges: &[u8],
@@ -43,8 +38,8 @@ pub fn slot_edge(
     left: bool,
     made: &mut [u8],
 ) -> Answer
-    ensures answered { λ r. ⌜ (Found left (now (pivots .entry)) (now (edges .entry)) (now (k .entry)) c → recordSize ≤ length (now (made .entry)) → r ≡ answer (longEdgeCauses (edgeCut left (now (pivots .entry)) (now (edges .entry)) (now (k .entry)))) 1) ⌝ }
-    ensures written { λ r. ⌜ (Found left (now (pivots .entry)) (now (edges .entry)) (now (k .entry)) c → recordSize ≤ length (now (made .entry)) → now (made .exit) ≡ leaves (longEdgeCauses (edgeCut left (now (pivots .entry)) (now (edges .entry)) (now (k .entry)))) (encodeEdge (edgeCut left (now (pivots .entry)) (now (edges .entry)) (now (k .entry)))) (now (made .entry))) ⌝ }
+    ensures answered { λ r. ⌜ r ≡ slotEdgeAnswer left (now (pivots .entry)) (now (edges .entry)) (now (k .entry)) c ⌝ }
+    ensures written { λ r. ⌜ now (made .exit) ≡ slotEdgeLeaves left (now (pivots .entry)) (now (edges .entry)) (now (k .entry)) c (now (made .entry)) ⌝ }
 {
     let from = records::key_bytes(records::record_at(pivots, c));
     let upto = records::record_after(pivots, c);

@@ -19,9 +19,7 @@ same-length : tie.Need-same-length
 same-length c = search rules
 
 returns : tie.Need-returns
-returns c =
-    let told = c .before .before .before .before .slot-edge .ensures .0 (search needs, search needs) (search needs) in
-    (search rules, search rules)
+returns c = (search rules, search rules)
 
 sub-slot-edge : tie.Need-sub-slot-edge
 sub-slot-edge c = search rules
@@ -39,14 +37,7 @@ same-length-2 : tie.Need-same-length-2
 same-length-2 c = search rules
 
 returns-2 : tie.Need-returns-2
-returns-2 c =
-    let first = c .before .before .before .before .before .before .before .before .slot-edge .ensures in
-    let second = c .before .before .slot-edge2 .ensures in
-    let one = first .0 (search needs, search needs) (search needs) in
-    let made = first .1 (search needs, search needs) (search needs) in
-    let other = second .0 (search needs, search needs) (search needs) in
-    let after = second .1 (search needs, search needs) (search needs) in
-    (search rules, search rules)
+returns-2 c = (search rules, search rules)
 
 pub half-edges-spec : {M : Type 1} → statement M
 half-edges-spec =

@@ -1,11 +1,11 @@
 -- `slot_edges::cut_edge` meets its contract.
 use mathlib.Core.Path.{refl}
-use Rattle.slot_edges.proofs.Edges.{none-answer, none-made, long-answer, long-kept, made-fits, made-inside, made-counts, made-answer, made-written}
+use Rattle.slot_edges.proofs.Edges.{absent-answer, absent-left, long-answer, long-kept, made-fits, made-inside, made-counts, made-answer, made-left}
 use borrow.Author.Needs.{needs}
 use Rattle.slot_edges.proofs.cut_edge.Statement.{statement}
 use Rattle.slot_edges.proofs.cut_edge.Tie as tie
 
-ruleset rules = (needs, refl, none-answer, none-made, long-answer, long-kept, made-fits, made-inside, made-counts, made-answer, made-written)
+ruleset rules = (needs, refl, absent-answer, absent-left, long-answer, long-kept, made-fits, made-inside, made-counts, made-answer, made-left)
 
 edge-kind-requires : tie.Need-edge-kind-requires
 edge-kind-requires c κs = search rules

@@ -1,6 +1,6 @@
 -- `cuts::cut_at` meets its contract.
 use mathlib.Core.Path.{refl}
-use Rattle.cuts.proofs.Writes.{edge-refused, edge-short, edge-made}
+use Rattle.cuts.proofs.Writes.{edge-refused, edge-made}
 use borrow.Author.Needs.{needs}
 use Rattle.cuts.proofs.split.cut_at.Statement.{statement}
 use Rattle.cuts.proofs.split.cut_at.Tie as tie
@@ -20,9 +20,7 @@ enum-told-2 : tie.Need-enum-told-2
 enum-told-2 c = search rules
 
 returns : tie.Need-returns
-returns c =
-    let told = c .before .before .before .slot-edge .ensures .0 (search needs, search needs) (search needs) in
-    (search rules, (search rules, search rules))
+returns c = (search rules, (search rules, search rules))
 
 slice-aggregate-write-at : tie.Need-slice-aggregate-write-at
 slice-aggregate-write-at c = search rules
@@ -31,9 +29,8 @@ write-at-requires : tie.Need-write-at-requires
 write-at-requires c κs =
     let made = c .before .before .before .before .before .before .slot-edge .ensures in
     let taken = c .before .before .before .enum-told .given .1 in
-    let told = made .0 (search needs, search needs) (search needs) in
-    let left = made .1 (search needs, search needs) (search needs) in
-    (search rules, edge-short _ _ _ _ _ told _ taken, edge-made _ _ _ _ _ told _ taken _ _ left refl)
+    let edge = edge-made _ _ _ _ _ _ (made .0) (search needs) (search needs) (search needs) (search needs) _ taken (search needs) _ _ (made .1) refl in
+    (search rules, edge .0, edge .1)
 
 same-length : tie.Need-same-length
 same-length c = search rules
