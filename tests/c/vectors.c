@@ -22,13 +22,13 @@ static size_t try_count;
 
 static void blanks(void)
 {
-    at += strspn(at, " \n");
+    at += strspn(at, " ");
 }
 
 static int next_is(const char *word)
 {
     size_t n = strlen(word);
-    int is = strncmp(at, word, n) == 0 && strchr(" \n", at[n]) != NULL;
+    int is = strncmp(at, word, n) == 0 && (at[n] == ' ' || at[n] == '\0');
     if (is) {
         at += n;
         blanks();
@@ -170,7 +170,7 @@ static void define(char *text)
 {
     char *to = text;
     for (const char *from = text; *from != '\0'; from++)
-        if (strchr(" \n", *from) == NULL)
+        if (*from != ' ')
             *to++ = *from;
     *to = '\0';
     at = text;
@@ -215,7 +215,8 @@ static void read_lines(char *text)
         unsigned lines = 1;
         char *end = strchr(text, '\n');
         while (end != NULL && end[1] == ' ') {
-            end = strchr(end + 1, '\n');
+            *end = ' ';
+            end = strchr(end, '\n');
             lines++;
         }
         if (end == NULL)

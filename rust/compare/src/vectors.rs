@@ -1,6 +1,6 @@
 //! The worked cases of the folder `vectors`, a group for each file: archive and reference must both
 //! give what is written down.
-use crate::asked::{Asked, MOST_DESTS};
+use crate::asked::{Asked, MOST_DESTS, MOST_NUMBERS};
 use crate::call::Call;
 use crate::group::{test, Group, Test, Wanted};
 use crate::{
@@ -54,14 +54,16 @@ fn of_topic(group: &mut Group, topic: &str) {
     }
 }
 
-/// Whether it is lent as many slices, numbers and destinations as the call takes.
+/// Whether it is lent as many slices, numbers and destinations as the call takes, and no more is
+/// answered than any call does.
 fn fits(call: &Call, case: &Case) -> bool {
-    let written = match &case.outcome {
-        Outcome::Refused(_) => call.dests.len(),
-        Outcome::Taken { written, .. } => written.len(),
+    let (answers, written) = match &case.outcome {
+        Outcome::Refused(_) => (0, call.dests.len()),
+        Outcome::Taken { answers, written } => (answers.len(), written.len()),
     };
     let lent = (case.slices.len(), case.number.is_some());
-    lent == (call.arguments.len(), call.takes_place)
+    answers <= MOST_NUMBERS
+        && lent == (call.arguments.len(), call.takes_place)
         && [case.rooms.len(), written] == [call.dests.len(); 2]
 }
 
