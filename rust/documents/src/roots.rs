@@ -54,18 +54,31 @@ fn calls(document: &str) -> Vec<(usize, String)> {
     found
 }
 
-/// The file and the function of a call.
+/// The file and the function of a call: in its crate, or in the one from which its crate hands it on.
 fn code_of<'a>(repository: &'a Repository, call: &str) -> Option<(&'a str, Function)> {
     let (name, _) = call.split_once("::")?;
     let (_, wanted) = call.rsplit_once("::")?;
     let folder = format!("crates/{name}/src/");
-    let mut files = repository
-        .files()
-        .filter(|(path, _)| path.starts_with(&folder));
-    files.find_map(|(path, text)| {
+    let files = || {
+        let all = repository.files();
+        all.filter(|(path, _)| path.starts_with(&folder))
+    };
+    let found = files().find_map(|(path, text)| {
         let found = functions(text).into_iter().find(|f| f.name == wanted);
         found.map(|function| (path, function))
+    });
+    found.or_else(|| {
+        let mut lines = files().flat_map(|(_, text)| text.lines());
+        let from = lines.find_map(|line| handed_on(line, wanted))?;
+        code_of(repository, &format!("{from}::{wanted}"))
     })
+}
+
+/// The crate, or module, from which a line hands a function on by its name.
+fn handed_on<'a>(line: &'a str, wanted: &str) -> Option<&'a str> {
+    let path = line.strip_prefix("pub use ")?.strip_suffix(';')?;
+    let (from, name) = path.split_once("::")?;
+    (name == wanted).then_some(from)
 }
 
 /// The definitions that a law of the model states as they are: its whole statement is the name of one.
@@ -89,4 +102,36 @@ pub fn claims(repository: &Repository, definitions: &Definitions) -> Roots {
         }
     }
     claims
+}
+
+#[cfg(test)]
+mod tests {
+    use super::code_of;
+    use crate::repository::Repository;
+
+    const FILES: [(&str, &str); 3] = [
+        (
+            "crates/faces/src/lib.rt",
+            "mod own;\n\npub use keys::key;\npub use keys::spare;\npub use own::here;\n",
+        ),
+        (
+            "crates/faces/src/own.rt",
+            "pub fn here(a: u8) -> u8 {\n    a\n}\n",
+        ),
+        (
+            "crates/keys/src/lib.rt",
+            "pub fn key(a: u8) -> u8 {\n    a\n}\n",
+        ),
+    ];
+
+    #[test]
+    fn a_call_is_found_where_it_is_handed_on_from() {
+        let repository = Repository::of(&FILES);
+        let file = |call: &str| code_of(&repository, call).map(|(path, _)| path);
+        assert_eq!(file("keys::key"), Some("crates/keys/src/lib.rt"));
+        assert_eq!(file("faces::key"), Some("crates/keys/src/lib.rt"));
+        assert_eq!(file("faces::here"), Some("crates/faces/src/own.rt"));
+        assert_eq!(file("faces::spare"), None);
+        assert_eq!(file("keys::here"), None);
+    }
 }

@@ -40,7 +40,7 @@ pub const FUNCTIONS: &[Function] = &[
     of("ComputeGetKey", "tables::get_key", answers::get_key),
     of("PivotInsertable", "tables::pivot_insertable", answers::pivot_insertable),
     of("ComputePivotInsertable", "tables::pivot_insertable", answers::pivot_insertable),
-    of("InsertPivot", "insertion::insert_pivot", answers::insert_pivot),
+    of("InsertPivot", "cuts::insert_pivot", answers::insert_pivot),
     of("CutoffForLeft", "routing::cutoff_for_left", answers::cutoff_for_left),
     of("ComputeCutoffForLeft", "routing::cutoff_for_left", answers::cutoff_for_left),
     of("SplitLeft", "cuts::split_left", answers::split_left),
