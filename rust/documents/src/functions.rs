@@ -34,6 +34,15 @@ pub fn functions(text: &str) -> Vec<Function> {
     found
 }
 
+/// The crate, or the module, from which a file of code hands a function on by its name.
+pub fn origin<'a>(text: &'a str, wanted: &str) -> Option<&'a str> {
+    text.lines().find_map(|line| {
+        let path = line.strip_prefix("pub use ")?.strip_suffix(';')?;
+        let (from, name) = path.split_once("::")?;
+        (name == wanted).then_some(from)
+    })
+}
+
 fn without_comment(line: &str) -> &str {
     line.split("//").next().unwrap_or("")
 }

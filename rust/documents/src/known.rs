@@ -1,5 +1,6 @@
 //! What there is to name: files, crates with their public names, laws, and the words of the code.
 use crate::evidence::{has, public, Evidence, Public};
+use crate::functions::origin;
 use crate::repository::Repository;
 use crate::source::items;
 use crate::words::{is_code, tokens, words, words_of_code};
@@ -114,7 +115,13 @@ impl<'a> Known<'a> {
     fn fault_of_qualified(&self, token: &str) -> Option<String> {
         let (owner, name) = token.split_once("::")?;
         if let Some(names) = self.names_of_crate(owner) {
-            let there = has(&names, name);
+            let from = |(_, text)| origin(text, name);
+            let code = format!("crates/{owner}/src");
+            let handed = self.repository.under(&code).find_map(from);
+            let there = has(&names, name)
+                || handed
+                    .and_then(|from| self.names_of_crate(from))
+                    .is_some_and(|names| has(&names, name));
             return (!there).then(|| format!("{name} is not public in the crate {owner}"));
         }
         let mut files = self.repository.files().filter(|(path, _)| is_code(path));

@@ -1,7 +1,7 @@
 //! What is asked to be believed: the contracts of the calls and of the boundary's functions, and the claims.
 use crate::definitions::Definitions;
 use crate::evidence::Evidence;
-use crate::functions::{functions, Function};
+use crate::functions::{functions, origin, Function};
 use crate::report::Report;
 use crate::repository::Repository;
 use crate::scope::Scope;
@@ -68,17 +68,9 @@ fn code_of<'a>(repository: &'a Repository, call: &str) -> Option<(&'a str, Funct
         found.map(|function| (path, function))
     });
     found.or_else(|| {
-        let mut lines = files().flat_map(|(_, text)| text.lines());
-        let from = lines.find_map(|line| handed_on(line, wanted))?;
+        let from = files().find_map(|(_, text)| origin(text, wanted))?;
         code_of(repository, &format!("{from}::{wanted}"))
     })
-}
-
-/// The crate, or module, from which a line hands a function on by its name.
-fn handed_on<'a>(line: &'a str, wanted: &str) -> Option<&'a str> {
-    let path = line.strip_prefix("pub use ")?.strip_suffix(';')?;
-    let (from, name) = path.split_once("::")?;
-    (name == wanted).then_some(from)
 }
 
 /// The definitions that a law of the model states as they are: its whole statement is the name of one.
