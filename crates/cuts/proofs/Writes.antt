@@ -1,9 +1,9 @@
 -- What a cut in a slot answers and writes.
 use mathlib.Core.Path.{_≡_, refl, sym, _∙_}
 use mathlib.Core.Bool.{Bool, true, false}
-use mathlib.Core.List.{List, [], _++_, append-nil}
+use mathlib.Core.List.{List, _++_, append-nil}
 use mathlib.Core.Option.{none}
-use Prim.Native.Nat.{ℕ, _+_, _*_, _-_, _≤_}
+use Prim.Native.Nat.{ℕ, _+_, _*_, _-_}
 use native.Mathlib.Omega.{arith}
 use mir.Syntax.{w8}
 use mir.Val.{Fits}
@@ -11,7 +11,7 @@ use lib.ListN.{length, take, drop, getD}
 use Rattle.model.specs.declared.Refusal.{Refusal}
 use Rattle.model.specs.declared.Answer.{Answer}
 use Rattle.model.specs.declared.Answer.the-variants as answers
-use Rattle.model.specs.records.Record.{recordSize, elements, recordOf, encodeEdge, encodeAll, encodeEdges}
+use Rattle.model.specs.records.Record.{elements, recordOf, encodeEdge, encodeAll, encodeEdges}
 use Rattle.model.specs.inner.Written.{clipped}
 use Rattle.model.specs.tables.Tables.{all, shortEdge}
 use Rattle.model.specs.cuts.Sides.{inside, cutoff}

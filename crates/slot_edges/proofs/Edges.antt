@@ -22,7 +22,7 @@ use Rattle.model.specs.inner.EdgeKinds.{edgeKind}
 use Rattle.model.specs.inner.Written.{clipped, into}
 use Rattle.model.specs.tables.Tables.{shortEdge}
 use Rattle.model.specs.cuts.Cuts.{cutEdge}
-use Rattle.model.specs.calls.KeyCalls.{sizeCauses, changePrefixCauses, changePrefixAnswer, changePrefixLeaves}
+use Rattle.model.specs.calls.KeyCalls.{sizeCauses, changePrefixAnswer, changePrefixLeaves}
 use Rattle.model.specs.calls.Refusals.{outcome, first, answer, leaves}
 use Rattle.model.proofs.Lists.{into-over, clipped-all, le-or-lt}
 use Rattle.model.proofs.keys.Key.{bytes-of}

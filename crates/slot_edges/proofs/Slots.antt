@@ -2,7 +2,6 @@
 use mathlib.Core.Path.{_≡_, _∙_}
 use mathlib.Core.Bool.{Bool, true, false}
 use mathlib.Core.List.{List}
-use mathlib.Core.Option.{none}
 use Prim.Native.Nat.{ℕ, _+_, _≤_}
 use native.Mathlib.Omega.{arith}
 use mir.Syntax.{w8}
@@ -17,7 +16,7 @@ use Rattle.model.specs.inner.Places.{recordAt}
 use Rattle.model.specs.ranges.RangePrefix.{lcp, PivotLcp}
 use Rattle.model.specs.tables.Tables.{PivotTable, pivotAt, edgeAt}
 use Rattle.model.specs.cuts.Cuts.{cutEdge, edgeWithin}
-use Rattle.model.specs.cuts.Sides.{inside, cutoff}
+use Rattle.model.specs.cuts.Sides.{cutoff}
 use Rattle.model.specs.inner.CutSlot.{cutFrom, cutUpto}
 use Rattle.model.specs.calls.Refusals.{answer, leaves}
 use Rattle.model.proofs.keys.Key.{prefix-is-take, bytes-of}
