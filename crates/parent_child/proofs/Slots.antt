@@ -1,6 +1,6 @@
 -- The slot that is asked about: cause 6, its own bounds where it has no edge, and its bounds under its edge.
 use mathlib.Core.Path.{_≡_, refl}
-use mathlib.Core.Bool.{Bool, true, false}
+use mathlib.Core.Bool.{Bool, false}
 use mathlib.Core.List.{List, []}
 use mathlib.Core.Option.{none}
 use Prim.Native.Nat.{ℕ, _+_, _/_, _≤_, _<_}
