@@ -4,7 +4,7 @@ use crate::case::Case;
 use crate::inputs::{key_record, Table, Xorshift};
 use crate::lent::Slices;
 use crate::sides::case;
-use joistdenim::{build_index, ENTRY_SIZE, MAX_ENTRIES, NUMBER_SIZE, PLACE_SIZE, RECORD_SIZE};
+use joistdenim::{build_index, ENTRY_SIZE, MAX_ENTRIES, NUMBER_SIZE, PLACE_SIZE};
 use std::collections::BTreeSet;
 use std::rc::Rc;
 
