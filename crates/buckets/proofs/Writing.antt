@@ -12,11 +12,10 @@ use Rattle.model.specs.records.Record.{recordSize, recordOf}
 use Rattle.model.specs.buckets.Bucket.{numberSize, entrySize, entryOf, encodeEntry, translateEntry}
 use Rattle.model.specs.calls.Refusals.{over}
 use Rattle.model.specs.calls.BucketCalls.{shortEntry}
-use Rattle.model.specs.inner.Written.{into, recorded}
+use Rattle.model.specs.inner.Written.{into}
 use Rattle.model.proofs.Lists.{rest, into-over, written-on}
 use Rattle.model.proofs.keys.Key.{prefix-length}
 use Rattle.model.proofs.records.Record.{length-record}
-use Rattle.records.proofs.JoinedKeys.{recorded-whole}
 use Rattle.buckets.specs.Kept.{CheckedEntry}
 
 module _ (e p q d k : List ℕ) (c : CheckedEntry e) (b : IsPrefix p (entryOf e .key) ≡ true) (s : shortEntry (translateEntry p q (entryOf e)) ≡ true)
@@ -38,7 +37,7 @@ module _ (e p q d k : List ℕ) (c : CheckedEntry e) (b : IsPrefix p (entryOf e 
 
   -- its number is written after its record
   pub entry-written : (v w : List ℕ) → entrySize ≤ length d
-      → v ≡ recorded (q ++ take (length k - length p) (drop (length p) k)) d
+      → v ≡ over (recordOf (length (q ++ take (length k - length p) (drop (length p) k))) (q ++ take (length k - length p) (drop (length p) k))) d
       → w ≡ into (take (length e - recordSize) (drop recordSize e)) (take (length v - recordSize) (drop recordSize v))
       → putMid recordSize (length v - recordSize) v w ≡ over (encodeEntry (translateEntry p q (entryOf e))) d
   unfolding encodeEntry entryOf
@@ -47,7 +46,6 @@ module _ (e p q d k : List ℕ) (c : CheckedEntry e) (b : IsPrefix p (entryOf e 
       let r = recordOf (length x) x in
       let n : length r ≡ recordSize = length-record (length x) x changed-short in
       let m : length (drop recordSize e) ≡ numberSize = omega (arith, length-drop recordSize e, c .size) in
-      let t : v ≡ over r d = rw changed at (recorded-whole q _ d v changed-room (omega arith) g) in
-      let u : v ≡ into r d = t ∙ sym (into-over r d (omega arith)) in
+      let u : v ≡ into r d = rw changed at g ∙ sym (into-over r d (omega arith)) in
       let y : w ≡ into (drop recordSize e) (take (length v - recordSize) (drop recordSize v)) = rw rest at j in
       written-on recordSize r (drop recordSize e) d v w (omega arith) u y ∙ into-over (r ++ drop recordSize e) d (omega (arith, length-append r (drop recordSize e)))

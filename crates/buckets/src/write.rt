@@ -6,15 +6,27 @@ use model::ENTRY_SIZE;
 use model::RECORD_SIZE;
 ghost use mathlib.Core.Path.{_≡_};
 ghost use mathlib.Core.Bool.{true};
+ghost use mathlib.Core.List.{_++_};
 ghost use mathlib.Core.Option.{none};
 ghost use Prim.Native.Nat.{_+_, _≤_};
 ghost use lib.ListN.{length};
-ghost use Rattle.model.specs.keys.Key.{IsPrefix};
+ghost use Rattle.model.specs.keys.Key.{IsPrefix, maxLen};
+ghost use Rattle.model.specs.records.Record.{recordSize, recordOf};
 ghost use Rattle.model.specs.tables.Tables.{all};
 ghost use Rattle.model.specs.buckets.Bucket.{entrySize, entryOf, encodeEntry, encodeBucket, translateEntry};
 ghost use Rattle.model.specs.calls.Refusals.{first, over};
 ghost use Rattle.model.specs.calls.BucketCalls.{shortEntry, newBucket, translateBucketCauses};
 ghost use Rattle.buckets.specs.Kept.{CheckedEntry, keptOf, keptBytes};
+
+// Writes the record of a key in two parts to the head of dest, which has room for it. `records::put_joined` does the same
+// and asks first; it is called, and here a call for each entry would cost.
+fn put_key(first: &[u8], rest: &[u8], dest: &mut [u8])
+    requires { ⌜ (length (now first) + length (now rest) ≤ maxLen) × (recordSize ≤ length (now dest)) ⌝ }
+    ensures { λ _. ⌜ now (dest .exit) ≡ over (recordOf (length (now (first .entry) ++ now (rest .entry))) (now (first .entry) ++ now (rest .entry))) (now (dest .entry)) ⌝ }
+{
+    records::put_head((first.len() + rest.len()) as u8, dest);
+    records::join_by_blocks(first, rest, &mut dest[2..]);
+}
 
 // Writes the translation of an entry whose key begins with the prefix to the head of dest.
 fn put_kept(entry: &[u8], prefix: &[u8], new_prefix: &[u8], dest: &mut [u8])
@@ -23,7 +35,7 @@ fn put_kept(entry: &[u8], prefix: &[u8], new_prefix: &[u8], dest: &mut [u8])
 {
     let key = key_of(entry);
     let from = prefix.len();
-    records::put_joined(new_prefix, &key[from..], dest);
+    put_key(new_prefix, &key[from..], dest);
     records::copy(&entry[RECORD_SIZE..], &mut dest[RECORD_SIZE..]);
 }
 

@@ -1,2 +1,1 @@
-pub mod SlotLines
 pub mod Listed

@@ -25,7 +25,8 @@ use Rattle.model.proofs.calls.Refusals.{here, later, done, value-done, passed, 
 use Rattle.model.proofs.Lists.{into-over}
 use Rattle.model.proofs.calls.TableCalls.{length-elements, element-at, edge-at, table-count, table-most, length-edges}
 use Rattle.digits.specs.Field.{field}
-use Rattle.listing.specs.Text.{lineAt, linesTo, countOf, foundText}
+use Rattle.list_lines.specs.Lines.{lineAt, linesTo, textOf}
+use Rattle.listing.specs.Text.{countOf, foundText}
 use Rattle.list_fields.proofs.Texts.{both-length, both-written}
 
 -- ---- a table that is refused
@@ -67,16 +68,16 @@ module _ (r : Refusal) (x : ℕ) (e : x ≡ number r) where
 -- ---- the text by what was found
 
 module _ (f : Answer) (p e : List ℕ) where
-  pub value-count : (n : ℕ) → f ≡ answers.Value n → countOf f ≤ 64 → n ≤ 64
-  value-count n h k = rw h at k
+  -- all the pivots of a table are listed
+  listed : (n : ℕ) → f ≡ answers.Value n → countOf f ≤ 64 → textOf p e n ≡ foundText f p e
+  unfolding textOf foundText
+  listed n h k = let l : n ≤ 64 = rw h at k in let m : min n 64 ≡ n = omega arith in rw (h, m)
 
-  pub value-length : (n m : ℕ) → f ≡ answers.Value n → m ≡ length (header ++ linesTo p e (n - 1)) → m ≡ length (foundText f p e)
-  unfolding foundText
-  value-length n m h k = rw h k
+  pub value-length : (n m : ℕ) → f ≡ answers.Value n → countOf f ≤ 64 → m ≡ length (textOf p e n) → m ≡ length (foundText f p e)
+  value-length n m h k g = g ∙ ap length (listed n h k)
 
-  pub value-written : (n : ℕ) (d w : List ℕ) → f ≡ answers.Value n → w ≡ into (header ++ linesTo p e (n - 1)) d → w ≡ into (foundText f p e) d
-  unfolding foundText
-  value-written n d w h k = rw h k
+  pub value-written : (n : ℕ) (d w : List ℕ) → f ≡ answers.Value n → countOf f ≤ 64 → w ≡ into (textOf p e n) d → w ≡ into (foundText f p e) d
+  value-written n d w h k g = g ∙ ap (λ (t : List ℕ). into t d) (listed n h k)
 
   pub refusal-length : (r : Refusal) (m : ℕ) → f ≡ answers.Refused r → m ≡ length (refusedText r) → m ≡ length (foundText f p e)
   unfolding foundText

@@ -1,9 +1,9 @@
 // The list of the table that an input holds.
-use crate::lines::table_text;
 use digits::number_field;
 use list_inputs::check_list;
 use list_inputs::list_edges;
 use list_inputs::list_pivots;
+use list_lines::table_text;
 use model::Answer;
 use model::Refusal;
 ghost use mathlib.Core.Path.{_≡_};

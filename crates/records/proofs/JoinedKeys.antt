@@ -6,6 +6,8 @@ use native.Mathlib.Omega.{arith}
 use borrow.Author.Tests.{le-leb, lt-leb}
 use borrow.Author.Fill.{fill-more}
 use borrow.Rule.Slice.PartMut.{putMid}
+use mir.Syntax.{w8}
+use mir.Val.{Fits}
 use lib.ListN.{length, take, drop, set, length-append, length-replicate, replicate-append-replicate}
 use lib.Seq.{drop-at, drop-append-le}
 use Rattle.model.specs.keys.Key.{maxLen}
@@ -14,6 +16,7 @@ use Rattle.model.specs.inner.Written.{into, recorded}
 use Rattle.model.specs.calls.Refusals.{over}
 use Rattle.model.proofs.Lists.{rest, lent-on, into-over}
 use Rattle.model.proofs.records.Record.{length-record}
+use Rattle.records.specs.Blank.{blank}
 
 -- ---- the length field and zeros
 
@@ -26,14 +29,19 @@ module _ (d v : List ℕ) (i : ℕ) (e : v ≡ zeros i ++ drop i d) where
   pub head-turn : i < 66 → 66 ≤ length d → set v i 0 ≡ zeros (i + 1) ++ drop (i + 1) d
   head-turn h m = rw e (fill-more i 0 d (omega arith))
 
-  -- over 66 zeros the length field is written in its second byte
-  pub head-end : (n : ℕ) → i ≤ 66 → 66 ≤ i → n ≤ 64 → set v 1 n ≡ over (recordOf n []) d
-  unfolding over recordOf
-  head-end n h j m =
+  -- over 66 zeros the length is written in the second byte
+  pub head-end : (n : ℕ) → Fits w8 n → i ≤ 66 → 66 ≤ i → 66 ≤ length d → set v 1 n ≡ blank n d
+  unfolding blank over recordOf
+  head-end n f h j m =
       let k : i ≡ 66 = omega arith in
-      let high : n / 256 ≡ 0 = omega arith in
-      let low : n % 256 ≡ n = omega arith in
-      rw (e, k, high, low)
+      let high : n / 256 ≡ 0 = omega (arith, f .fits) in
+      let low : n % 256 ≡ n = omega (arith, f .fits) in
+      rw (le-leb 66 (length d) m, e, k, high, low)
+
+-- without room nothing is
+pub head-none : (n : ℕ) (d : List ℕ) → length d < 66 → d ≡ blank n d
+unfolding blank
+head-none n d h = rw (lt-leb 66 (length d) h)
 
 -- ---- the key's bytes over the zeros
 
@@ -55,21 +63,22 @@ over-record : (f : ℕ) (k d : List ℕ) → length k ≤ maxLen → over (recor
 unfolding over
 over-record f k d h = rw (length-record f k h) (unfold recordOf in refl)
 
-module _ (a b d v w : List ℕ) (h : length a + length b ≤ 64) (m : 66 ≤ length d) (e : v ≡ over (recordOf (length a + length b) []) d) where
+module _ (a b d v w : List ℕ) (h : length a + length b ≤ 64) (m : 66 ≤ length d) (n : ℕ) (l : n ≡ length a + length b) (e : v ≡ blank n d) where
   -- what stands before the key's bytes are written
   head-is : v ≡ (length a + length b) / 256 ∷ (length a + length b) % 256 ∷ (zeros maxLen ++ drop 66 d)
-  head-is = e ∙ over-record (length a + length b) [] d (omega arith)
+  unfolding blank
+  head-is = (rw (le-leb 66 (length d) m, l) at e) ∙ over-record (length a + length b) [] d (omega arith)
 
   -- and after them: the record of the whole key
   pub joined-made : w ≡ into (a ++ b) (take (length v - 2) (drop 2 v)) → putMid 2 (length v - 2) v w ≡ over (recordOf (length (a ++ b)) (a ++ b)) d
   joined-made g =
-      let n : length (a ++ b) ≡ length a + length b = length-append a b in
+      let c : length (a ++ b) ≡ length a + length b = length-append a b in
       let s : drop 2 v ≡ zeros maxLen ++ drop 66 d = ap (drop 2) head-is in
-      let room : length (a ++ b) ≤ length (zeros maxLen ++ drop 66 d) = omega (arith, n, length-append (zeros maxLen) (drop 66 d), length-replicate {A = ℕ} maxLen 0) in
+      let room : length (a ++ b) ≤ length (zeros maxLen ++ drop 66 d) = omega (arith, c, length-append (zeros maxLen) (drop 66 d), length-replicate {A = ℕ} maxLen 0) in
       let y : w ≡ (a ++ b ++ zeros (maxLen - length (a ++ b))) ++ drop 66 d =
-      g ∙ rw (rest v 2, s, into-over (a ++ b) (zeros maxLen ++ drop 66 d) room) (over-zeros maxLen (a ++ b) (drop 66 d) (omega (arith, n)))
+      g ∙ rw (rest v 2, s, into-over (a ++ b) (zeros maxLen ++ drop 66 d) room) (over-zeros maxLen (a ++ b) (drop 66 d) (omega (arith, c)))
       in
-      rw (lent-on 2 v w, y, head-is, over-record (length (a ++ b)) (a ++ b) d (omega (arith, n)), n)
+      rw (lent-on 2 v w, y, head-is, over-record (length (a ++ b)) (a ++ b) d (omega (arith, c)), c)
 
 -- ---- whether it is written
 

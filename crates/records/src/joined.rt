@@ -4,25 +4,28 @@ use copies::join_by_blocks;
 use model::MAX_LEN;
 use model::RECORD_SIZE;
 ghost use mathlib.Core.Path.{_≡_};
-ghost use mathlib.Core.List.{[], _++_};
+ghost use mathlib.Core.List.{_++_};
 ghost use Prim.Native.Nat.{_+_, _≤_};
 ghost use lib.ListN.{length};
 ghost use Rattle.model.specs.keys.Key.{maxLen};
 ghost use Rattle.model.specs.records.Record.{recordSize, recordOf};
 ghost use Rattle.model.specs.calls.Refusals.{over};
 ghost use Rattle.model.specs.inner.Written.{recorded};
+ghost use Rattle.records.specs.Blank.{blank};
 
-// A record with a length field and no bytes after it, at the head of dest.
-fn put_head(n: usize, dest: &mut [u8])
-    requires { ⌜ (n ≤ maxLen) × (recordSize ≤ length (now dest)) ⌝ }
-    ensures { λ _. ⌜ now (dest .exit) ≡ over (recordOf n []) (now (dest .entry)) ⌝ }
+// A record with this length, and zeros for a key, at the head of dest. Nothing is written where there is no room for it.
+pub fn put_head(n: u8, dest: &mut [u8])
+    ensures { λ _. ⌜ now (dest .exit) ≡ blank n (now (dest .entry)) ⌝ }
 {
+    if dest.len() < RECORD_SIZE {
+        return;
+    }
     let mut i = 0;
     while i < RECORD_SIZE {
         dest[i] = 0;
         i += 1;
     }
-    dest[1] = n as u8;
+    dest[1] = n;
 }
 
 // The record of the key a followed by b, at the head of dest, which has room for it.
@@ -30,7 +33,7 @@ fn put_whole(a: &[u8], b: &[u8], dest: &mut [u8])
     requires { ⌜ (length (now a) + length (now b) ≤ maxLen) × (recordSize ≤ length (now dest)) ⌝ }
     ensures { λ _. ⌜ now (dest .exit) ≡ over (recordOf (length (now (a .entry) ++ now (b .entry))) (now (a .entry) ++ now (b .entry))) (now (dest .entry)) ⌝ }
 {
-    put_head(a.len() + b.len(), dest);
+    put_head((a.len() + b.len()) as u8, dest);
     join_by_blocks(a, b, &mut dest[2..]);
 }
 

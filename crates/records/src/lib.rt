@@ -8,6 +8,7 @@ pub use copies::copy;
 pub use copies::copy_by_blocks;
 pub use copies::join;
 pub use copies::join_by_blocks;
+pub use joined::put_head;
 pub use joined::put_joined;
 pub use read::edge_kind;
 pub use read::field_reading;

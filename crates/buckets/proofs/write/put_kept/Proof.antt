@@ -10,17 +10,17 @@ ruleset rules = (needs, record-first, beyond, changed-room, entry-written)
 key-of-requires : tie.Need-key-of-requires
 key-of-requires c κs = search rules
 
-sub-put-joined : tie.Need-sub-put-joined
-sub-put-joined c = search rules
+sub-put-key : tie.Need-sub-put-key
+sub-put-key c = search rules
 
-part-put-joined-start : tie.Need-part-put-joined-start
-part-put-joined-start c = search rules
+part-put-key-start : tie.Need-part-put-key-start
+part-put-key-start c = search rules
 
-part-put-joined-end : tie.Need-part-put-joined-end
-part-put-joined-end c = search rules
+part-put-key-end : tie.Need-part-put-key-end
+part-put-key-end c = search rules
 
-put-joined-requires : tie.Need-put-joined-requires
-put-joined-requires c κs = search rules
+put-key-requires : tie.Need-put-key-requires
+put-key-requires c κs = search rules
 
 sub-copy : tie.Need-sub-copy
 sub-copy c = search rules
@@ -54,10 +54,10 @@ put-kept-spec =
     tie.close
     (tie.spec
     key-of-requires
-    sub-put-joined
-    part-put-joined-start
-    part-put-joined-end
-    put-joined-requires
+    sub-put-key
+    part-put-key-start
+    part-put-key-end
+    put-key-requires
     sub-copy
     part-copy-start
     part-copy-end

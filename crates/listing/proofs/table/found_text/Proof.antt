@@ -1,10 +1,10 @@
 -- `listing::table::found_text` meets its contract.
-use Rattle.listing.proofs.Listed.{value-count, value-length, value-written, refusal-length, refusal-written}
+use Rattle.listing.proofs.Listed.{value-length, value-written, refusal-length, refusal-written}
 use borrow.Author.Needs.{needs}
 use Rattle.listing.proofs.table.found_text.Statement.{statement}
 use Rattle.listing.proofs.table.found_text.Tie as tie
 
-ruleset rules = (needs, value-count, value-length, value-written, refusal-length, refusal-written)
+ruleset rules = (needs, value-length, value-written, refusal-length, refusal-written)
 
 enum-known-found : tie.Need-enum-known-found
 enum-known-found c = search rules

@@ -9,6 +9,9 @@ ruleset rules = (needs, joined-made)
 add-put-head : tie.Need-add-put-head
 add-put-head c = search rules
 
+cast-put-head : tie.Need-cast-put-head
+cast-put-head c = search rules
+
 put-head-requires : tie.Need-put-head-requires
 put-head-requires c κs = search rules
 
@@ -35,6 +38,7 @@ put-whole-spec =
     tie.close
     (tie.spec
     add-put-head
+    cast-put-head
     put-head-requires
     sub-join-by-blocks
     part-join-by-blocks-start

@@ -11,10 +11,10 @@ use Rattle.model.specs.inner.Places.{recordAt}
 use Rattle.model.specs.ranges.RangePrefix.{PivotLcp}
 use Rattle.model.specs.calls.Refusals.{over}
 use Rattle.model.specs.inner.Written.{into}
-use Rattle.model.specs.list.ShelfList.{tab, newline, decimal, keyText, elementText, edgeText, slotLine}
+use Rattle.model.specs.list.ShelfList.{tab, newline, header, decimal, keyText, elementText, edgeText, slotLine}
 use Rattle.model.proofs.Lists.{into-over}
 use Rattle.digits.specs.Field.{field}
-use Rattle.listing.specs.Text.{lineHead, lineRest, lineAt, linesTo}
+use Rattle.list_lines.specs.Lines.{lineHead, lineRest, lineAt, linesTo, textOf}
 use Rattle.list_fields.proofs.Texts.{both-length, both-written}
 
 -- ---- one line
@@ -93,3 +93,14 @@ module _ (p e : List ℕ) where
 
       pub lines-end-written : (d w : List ℕ) → w ≡ into (linesTo p e i) d → w ≡ into (linesTo p e (count - 1)) d
       lines-end-written d w ew = rw (← last) ew
+
+-- ---- the text of as many pivots as are listed
+
+pub text-length : (p e : List ℕ) (count listed m : ℕ) → listed ≡ min count 64 → m ≡ length (linesTo p e (listed - 1)) → 28 + m ≡ length (textOf p e count)
+unfolding textOf header
+text-length p e count listed m h k = both-length 28 m header (linesTo p e (listed - 1)) refl k ∙ rw h
+
+pub text-written : (p e : List ℕ) (count listed at : ℕ) (d v w : List ℕ) → listed ≡ min count 64 → v ≡ into header d → at ≡ min 28 (length v)
+    → w ≡ into (linesTo p e (listed - 1)) (take (length v - at) (drop at v)) → putMid at (length v - at) v w ≡ into (textOf p e count) d
+unfolding textOf header
+text-written p e count listed at d v w h ev em ew = both-written 28 at header (linesTo p e (listed - 1)) d v w refl ev em ew ∙ rw h

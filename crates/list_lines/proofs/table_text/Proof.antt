@@ -1,11 +1,14 @@
--- `listing::lines::table_text` meets its contract.
+-- `list_lines::table_text` meets its contract.
 use Rattle.model.specs.list.ShelfList.{header}
-use Rattle.list_fields.proofs.Texts.{both-length, both-written}
+use Rattle.list_lines.proofs.SlotLines.{text-length, text-written}
 use borrow.Author.Needs.{needs}
-use Rattle.listing.proofs.lines.table_text.Statement.{statement}
-use Rattle.listing.proofs.lines.table_text.Tie as tie
+use Rattle.list_lines.proofs.table_text.Statement.{statement}
+use Rattle.list_lines.proofs.table_text.Tie as tie
 
-ruleset rules = (needs, both-length, both-written)
+ruleset rules = (needs, text-length, text-written)
+
+least-requires : tie.Need-least-requires
+least-requires c κs = search rules
 
 slice-aggregate-copy : tie.Need-slice-aggregate-copy
 slice-aggregate-copy c = search rules
@@ -13,8 +16,8 @@ slice-aggregate-copy c = search rules
 copy-requires : tie.Need-copy-requires
 copy-requires c κs = search rules
 
-least-requires : tie.Need-least-requires
-least-requires c κs = search rules
+least-requires-2 : tie.Need-least-requires-2
+least-requires-2 c κs = search rules
 
 sub-slot-lines : tie.Need-sub-slot-lines
 sub-slot-lines c = search rules
@@ -42,9 +45,10 @@ pub table-text-spec : {M : Type 1} → statement M
 table-text-spec =
     tie.close
     (tie.spec
+    least-requires
     slice-aggregate-copy
     copy-requires
-    least-requires
+    least-requires-2
     sub-slot-lines
     part-slot-lines-start
     part-slot-lines-end

@@ -1,16 +1,17 @@
 // The lines of a table. Each text is written at the head of dest as far as there is room, and its length is answered.
+// No public function has a `requires`.
 use digits::number_field;
 use list_fields::edge_field;
 use list_fields::element_field;
 use list_fields::shared_field;
+use model::MAX_PIVOTS;
 ghost use mathlib.Core.Path.{_≡_};
 ghost use mathlib.Core.List.{_++_};
 ghost use Prim.Native.Nat.{_+_, _*_, _-_, _≤_, _<_};
 ghost use lib.ListN.{length};
 ghost use Rattle.model.specs.inner.Written.{into};
-ghost use Rattle.model.specs.list.ShelfList.{header};
 ghost use Rattle.list_fields.specs.Fields.{pivotField, mostField};
-ghost use Rattle.listing.specs.Text.{lineHead, lineRest, lineAt, linesTo, mostLine};
+ghost use Rattle.list_lines.specs.Lines.{lineHead, lineRest, lineAt, linesTo, textOf, mostLine};
 
 // The two pivots of a slot.
 fn line_pivots(left: &[u8], right: &[u8], dest: &mut [u8]) -> usize
@@ -72,14 +73,14 @@ fn slot_lines(pivots: &[u8], edges: &[u8], count: usize, dest: &mut [u8]) -> usi
     n
 }
 
-// The header, and a line for each slot.
-pub(crate) fn table_text(pivots: &[u8], edges: &[u8], count: usize, dest: &mut [u8]) -> usize
-    requires { ⌜ count ≤ 64 ⌝ }
-    ensures length { λ r. ⌜ r ≡ length (header ++ linesTo (now (pivots .entry)) (now (edges .entry)) (count - 1)) ⌝ }
-    ensures written { λ r. ⌜ now (dest .exit) ≡ into (header ++ linesTo (now (pivots .entry)) (now (edges .entry)) (count - 1)) (now (dest .entry)) ⌝ }
+// The header, and a line for each slot of as many pivots, of 64 at most: more would have no number of two digits.
+pub fn table_text(pivots: &[u8], edges: &[u8], count: usize, dest: &mut [u8]) -> usize
+    ensures length { λ r. ⌜ r ≡ length (textOf (now (pivots .entry)) (now (edges .entry)) count) ⌝ }
+    ensures written { λ r. ⌜ now (dest .exit) ≡ into (textOf (now (pivots .entry)) (now (edges .entry)) count) (now (dest .entry)) ⌝ }
 {
+    let listed = scan::least(count, MAX_PIVOTS);
     records::copy(b"slot\tleft\tright\tshared\tedge\n", dest);
     let n = 28;
     let at = scan::least(n, dest.len());
-    n + slot_lines(pivots, edges, count, &mut dest[at..])
+    n + slot_lines(pivots, edges, listed, &mut dest[at..])
 }

@@ -1,8 +1,8 @@
--- `listing::lines::line_head` meets its contract.
+-- `list_lines::line_head` meets its contract.
 use Rattle.list_fields.proofs.Texts.{both-length, both-written}
 use borrow.Author.Needs.{needs}
-use Rattle.listing.proofs.lines.line_head.Statement.{statement}
-use Rattle.listing.proofs.lines.line_head.Tie as tie
+use Rattle.list_lines.proofs.line_head.Statement.{statement}
+use Rattle.list_lines.proofs.line_head.Tie as tie
 
 ruleset rules = (needs, both-length, both-written)
 

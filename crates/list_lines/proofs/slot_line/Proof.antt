@@ -1,8 +1,8 @@
--- `listing::lines::slot_line` meets its contract.
-use Rattle.listing.proofs.SlotLines.{line-length, line-written}
+-- `list_lines::slot_line` meets its contract.
+use Rattle.list_lines.proofs.SlotLines.{line-length, line-written}
 use borrow.Author.Needs.{needs}
-use Rattle.listing.proofs.lines.slot_line.Statement.{statement}
-use Rattle.listing.proofs.lines.slot_line.Tie as tie
+use Rattle.list_lines.proofs.slot_line.Statement.{statement}
+use Rattle.list_lines.proofs.slot_line.Tie as tie
 
 ruleset rules = (needs, line-length, line-written)
 

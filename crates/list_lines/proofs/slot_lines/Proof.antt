@@ -1,13 +1,13 @@
--- `listing::lines::slot_lines` meets its contract.
+-- `list_lines::slot_lines` meets its contract.
 use mathlib.Core.Path.{_≡_}
 use Prim.Native.Nat.{_*_, _-_, _≤_}
 use lib.ListN.{length}
 use Rattle.model.specs.inner.Written.{into}
-use Rattle.listing.specs.Text.{mostLine, linesTo}
+use Rattle.list_lines.specs.Lines.{mostLine, linesTo}
 use borrow.Author.Needs.{needs}
-use Rattle.listing.proofs.SlotLines.{lines-none, lines-none-written, lines-length, lines-written, lines-end-length, lines-end-written}
-use Rattle.listing.proofs.lines.slot_lines.Statement.{statement}
-use Rattle.listing.proofs.lines.slot_lines.Tie as tie
+use Rattle.list_lines.proofs.SlotLines.{lines-none, lines-none-written, lines-length, lines-written, lines-end-length, lines-end-written}
+use Rattle.list_lines.proofs.slot_lines.Statement.{statement}
+use Rattle.list_lines.proofs.slot_lines.Tie as tie
 
 ruleset rules = (needs, lines-none, lines-none-written, lines-length, lines-written, lines-end-length, lines-end-written)
 
