@@ -18,6 +18,7 @@ use Rattle.model.specs.records.Record.{edge, noEdge, recordSize, keyBytes, elem
 use Rattle.model.specs.records.Record.{recordOf, encodeEdge, encodeEdges}
 use Rattle.model.specs.inner.EdgeKinds.{edgeKind}
 use Rattle.model.specs.inner.Places.{recordAt}
+use Rattle.model.specs.inner.Written.{into}
 use Rattle.model.specs.ranges.RangePrefix.{PivotLcp}
 use Rattle.model.specs.tables.Tables.{edgeAt, all, shortEdge}
 use Rattle.model.specs.translation.Renaming.{filled}
@@ -35,6 +36,13 @@ use Rattle.model.proofs.calls.TableCalls.{length-elements, length-edges, elemen
 use Rattle.model.proofs.calls.TableCalls.{table-wf, table-count, table-edges-whole, table-edges-short}
 use Rattle.model.proofs.calls.PivotKeys.{key-at}
 use Rattle.model.proofs.translation.Renaming.{edges-count, edges-at, edges-short}
+use Rattle.records.specs.Blank.{blank}
+use Rattle.records.proofs.JoinedKeys.{joined-made}
+
+-- the record of a key: a length and zeros, and then the key's bytes over the zeros
+module _ (k d v w : List ℕ) (h : length k ≤ 64) (m : 66 ≤ length d) (n : ℕ) (l : n ≡ length k) (e : v ≡ blank n d) where
+  pub key-made : w ≡ into k (take (length v - 2) (drop 2 v)) → putMid 2 (length v - 2) v w ≡ over (recordOf (length k) k) d
+  key-made g = rw append-nil at (joined-made k [] d v w (omega arith) m n (omega arith) e (rw append-nil g))
 
 module _ (p e : List ℕ) (h : first (tableCauses false false p e) ≡ none) where
   -- there are as many as the edges lent
@@ -75,14 +83,13 @@ module _ (p e : List ℕ) (h : first (tableCauses false false p e) ≡ none) whe
         prefix-short = leb-true (length (take n x)) maxLen (rw prefix-is at short-here)
 
         -- it has room in a record
-        pub prefix-room : n ≤ length x → length (take n x) + length (take 0 x) ≤ 64
-        prefix-room q = omega (arith, prefix-short)
+        pub prefix-room : length (take n x) ≤ 64
+        prefix-room = prefix-short
 
         -- and its record is that of the filled edge
-        pub prefix-made : (d w : List ℕ) → w ≡ over (recordOf (length (take n x ++ take 0 x)) (take n x ++ take 0 x)) d
-            → w ≡ over (encodeEdge (edgeAt (newEdges p e) i)) d
+        pub prefix-made : (d w : List ℕ) → w ≡ over (recordOf (length (take n x)) (take n x)) d → w ≡ over (encodeEdge (edgeAt (newEdges p e) i)) d
         unfolding encodeEdge
-        prefix-made d w f = f ∙ rw (prefix-is, append-nil)
+        prefix-made d w f = f ∙ rw prefix-is
 
       -- where there is one, it is made again
       module _ (y : ℕ) (u : t ≡ kinds.Prefix y) (k : List ℕ) (o : k ≡ keyBytes a) where
@@ -95,13 +102,13 @@ module _ (p e : List ℕ) (h : first (tableCauses false false p e) ≡ none) whe
         kept-short = leb-true (length k) maxLen (rw kept-is at short-here)
 
         -- it has room in a record
-        pub kept-room : length k + length (take 0 k) ≤ 64
-        kept-room = omega (arith, kept-short)
+        pub kept-room : length k ≤ 64
+        kept-room = kept-short
 
         -- and its record is that of the filled edge
-        pub kept-made : (d w : List ℕ) → w ≡ over (recordOf (length (k ++ take 0 k)) (k ++ take 0 k)) d → w ≡ over (encodeEdge (edgeAt (newEdges p e) i)) d
+        pub kept-made : (d w : List ℕ) → w ≡ over (recordOf (length k) k) d → w ≡ over (encodeEdge (edgeAt (newEdges p e) i)) d
         unfolding encodeEdge
-        kept-made d w f = f ∙ rw (kept-is, append-nil)
+        kept-made d w f = f ∙ rw kept-is
 
   -- ---- all records
 

@@ -3,17 +3,26 @@ use model::Answer;
 use model::EdgeKind;
 use model::RECORD_SIZE;
 use model::Refusal;
-use records::put_joined;
 ghost use mathlib.Core.Path.{_≡_};
 ghost use mathlib.Core.Bool.{false};
 ghost use mathlib.Core.Option.{none};
 ghost use Prim.Native.Nat.{_/_, _≤_, _<_};
 ghost use lib.ListN.{length};
-ghost use Rattle.model.specs.records.Record.{recordSize, encodeEdge, encodeEdges};
+ghost use Rattle.model.specs.keys.Key.{maxLen};
+ghost use Rattle.model.specs.records.Record.{recordSize, recordOf, encodeEdge, encodeEdges};
 ghost use Rattle.model.specs.tables.Tables.{edgeAt};
 ghost use Rattle.model.specs.calls.Refusals.{first, over};
 ghost use Rattle.model.specs.calls.TableCalls.{tableCauses};
 ghost use Rattle.model.specs.calls.RenamingCalls.{newEdges, edgesAnswer, edgesLeaves};
+
+// Writes the record of a key to the head of dest, which has room for it, by leaves that the compiler puts in place.
+fn put_key(k: &[u8], dest: &mut [u8])
+    requires { ⌜ (length (now k) ≤ maxLen) × (recordSize ≤ length (now dest)) ⌝ }
+    ensures { λ _. ⌜ now (dest .exit) ≡ over (recordOf (length (now (k .entry))) (now (k .entry))) (now (dest .entry)) ⌝ }
+{
+    records::put_head(k.len() as u8, dest);
+    records::copy_by_blocks(k, &mut dest[2..]);
+}
 
 // The record of the edge of slot i or, where there is none, of the prefix of the slot's range, at the head of dest.
 fn put_filled(pivots: &[u8], edges: &[u8], i: usize, dest: &mut [u8])
@@ -22,14 +31,11 @@ fn put_filled(pivots: &[u8], edges: &[u8], i: usize, dest: &mut [u8])
 {
     let old = records::record_at(edges, i);
     match records::edge_kind(old) {
-        EdgeKind::Prefix(_) => {
-            let k = records::key_bytes(old);
-            put_joined(k, &k[..0], dest);
-        }
+        EdgeKind::Prefix(_) => put_key(records::key_bytes(old), dest),
         EdgeKind::Absent => {
             let from = records::key_bytes(records::record_at(pivots, i));
             let n = range_prefix::range_prefix_len(from, records::record_at(pivots, i + 1));
-            put_joined(&from[..n], &from[..0], dest);
+            put_key(&from[..n], dest)
         }
     }
 }

@@ -1,12 +1,11 @@
 -- `filled_edges::put_filled` meets its contract.
 use Rattle.model.proofs.Lists.{part-counts}
-use Rattle.records.proofs.JoinedKeys.{recorded-whole}
 use Rattle.filled_edges.proofs.Filled.{prefix-room, prefix-made, kept-room, kept-made}
 use borrow.Author.Needs.{needs}
 use Rattle.filled_edges.proofs.put_filled.Statement.{statement}
 use Rattle.filled_edges.proofs.put_filled.Tie as tie
 
-ruleset rules = (needs, recorded-whole, part-counts, prefix-room, prefix-made, kept-room, kept-made)
+ruleset rules = (needs, part-counts, prefix-room, prefix-made, kept-room, kept-made)
 
 record-at-requires : tie.Need-record-at-requires
 record-at-requires c κs = search rules
@@ -20,11 +19,8 @@ enum-told c = search rules
 key-bytes-requires : tie.Need-key-bytes-requires
 key-bytes-requires c κs = search rules
 
-slice-aggregate-put-joined : tie.Need-slice-aggregate-put-joined
-slice-aggregate-put-joined c = search rules
-
-put-joined-requires : tie.Need-put-joined-requires
-put-joined-requires c κs = search rules
+put-key-requires : tie.Need-put-key-requires
+put-key-requires c κs = search rules
 
 enum-told-2 : tie.Need-enum-told-2
 enum-told-2 c = search rules
@@ -44,14 +40,11 @@ record-at-requires-3 c κs = search rules
 range-prefix-len-requires : tie.Need-range-prefix-len-requires
 range-prefix-len-requires c κs = search rules
 
-slice-aggregate-put-joined-2 : tie.Need-slice-aggregate-put-joined-2
-slice-aggregate-put-joined-2 c = search rules
+slice-aggregate-put-key : tie.Need-slice-aggregate-put-key
+slice-aggregate-put-key c = search rules
 
-slice-aggregate-put-joined-3 : tie.Need-slice-aggregate-put-joined-3
-slice-aggregate-put-joined-3 c = search rules
-
-put-joined-requires-2 : tie.Need-put-joined-requires-2
-put-joined-requires-2 c κs = search rules
+put-key-requires-2 : tie.Need-put-key-requires-2
+put-key-requires-2 c κs = search rules
 
 same-length : tie.Need-same-length
 same-length c = search rules
@@ -73,17 +66,15 @@ put-filled-spec =
     edge-kind-requires
     enum-told
     key-bytes-requires
-    slice-aggregate-put-joined
-    put-joined-requires
+    put-key-requires
     enum-told-2
     record-at-requires-2
     key-bytes-requires-2
     add-record-at
     record-at-requires-3
     range-prefix-len-requires
-    slice-aggregate-put-joined-2
-    slice-aggregate-put-joined-3
-    put-joined-requires-2
+    slice-aggregate-put-key
+    put-key-requires-2
     same-length
     returns
     same-length-2
