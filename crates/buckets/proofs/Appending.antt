@@ -23,12 +23,14 @@ use Rattle.model.specs.calls.BucketCalls.{newBucket, shortEntry, neededBytes, b
 use Rattle.model.proofs.Lists.{rest, lent-on, over-append, length-over, all-append, le-or-lt}
 use Rattle.model.proofs.keys.Key.{both}
 use Rattle.model.proofs.buckets.Entries.{encode-append, length-encodeBucket}
-use Rattle.model.proofs.buckets.Bucket.{translated-wft}
 use Rattle.model.proofs.calls.Refusals.{none-here, none-later, none-before, none-after}
 use Rattle.model.proofs.calls.BucketCalls.{bucket-most, kept-sized}
 use Rattle.model.specs.inner.Places.{entryAt}
-use Rattle.buckets.specs.Kept.{CheckedEntry, Good, keptOf, keptBytes}
-use Rattle.buckets.proofs.Measuring.{left, left-over, left-next, entry-checked, kept-most}
+use Rattle.bucket_measures.specs.Kept.{Good, keptOf}
+use Rattle.bucket_measures.proofs.OneKept.{one-left}
+use Rattle.bucket_measures.proofs.Measuring.{left, left-over, left-next}
+use Rattle.buckets.specs.Checked.{CheckedEntry, keptBytes}
+use Rattle.buckets.proofs.Good.{entry-checked, kept-most}
 
 -- a list of length 0 is empty
 no-bytes : (l : List ℕ) → length l ≡ 0 → l ≡ []
@@ -55,11 +57,6 @@ module _ (l : List ℕ) (p q : Key) (test : Entry → Bool) (h : all test (newBu
 
   at-place : (j : ℕ) → j < length l / entrySize → all test (keptOf (entryAt l j) p q) ≡ true
   at-place j k = both-parts j k (from-place j (omega arith)) .0
-
--- one place leaves at most one entry
-one-left : (e : List ℕ) (p q : Key) → length (keptOf e p q) ≤ 1
-unfolding keptOf
-one-left e p q = translated-wft (entryOf e ∷ []) p q 0 (omega arith) .atMost
 
 -- ---- none of the call's causes applies
 

@@ -1,6 +1,5 @@
-pub mod Counts
+pub mod Good
 pub mod OneEntry
-pub mod Measuring
 pub mod Writing
 pub mod Appending
 pub mod Renaming

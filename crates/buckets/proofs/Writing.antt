@@ -16,7 +16,7 @@ use Rattle.model.specs.inner.Written.{into}
 use Rattle.model.proofs.Lists.{rest, into-over, written-on}
 use Rattle.model.proofs.keys.Key.{prefix-length}
 use Rattle.model.proofs.records.Record.{length-record}
-use Rattle.buckets.specs.Kept.{CheckedEntry}
+use Rattle.buckets.specs.Checked.{CheckedEntry}
 
 module _ (e p q d k : List ℕ) (c : CheckedEntry e) (b : IsPrefix p (entryOf e .key) ≡ true) (s : shortEntry (translateEntry p q (entryOf e)) ≡ true)
     (f : k ≡ entryOf e .key) where

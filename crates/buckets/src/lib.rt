@@ -1,9 +1,7 @@
-// Buckets: their translation, and whether it would be accepted. No public function has a `requires`.
-mod entry;
-mod measure;
+// Buckets under another prefix; and by name whether one would be accepted. No public function has a `requires`.
 mod translate;
 mod write;
 
-pub use translate::too_long;
+pub use bucket_fits::translate_bucket_will_fit;
+pub use bucket_measures::too_long;
 pub use translate::translate_bucket;
-pub use translate::translate_bucket_will_fit;

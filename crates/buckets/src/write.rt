@@ -1,7 +1,7 @@
 // The entries that are kept, written one after the other.
-use crate::entry::begins_with;
-use crate::entry::key_of;
+use entries::begins_with;
 use entries::entry_at;
+use entries::key_of;
 use model::ENTRY_SIZE;
 use model::RECORD_SIZE;
 ghost use mathlib.Core.Path.{_≡_};
@@ -16,7 +16,8 @@ ghost use Rattle.model.specs.tables.Tables.{all};
 ghost use Rattle.model.specs.buckets.Bucket.{entrySize, entryOf, encodeEntry, encodeBucket, translateEntry};
 ghost use Rattle.model.specs.calls.Refusals.{first, over};
 ghost use Rattle.model.specs.calls.BucketCalls.{shortEntry, newBucket, translateBucketCauses};
-ghost use Rattle.buckets.specs.Kept.{CheckedEntry, keptOf, keptBytes};
+ghost use Rattle.bucket_measures.specs.Kept.{keptOf};
+ghost use Rattle.buckets.specs.Checked.{CheckedEntry, keptBytes};
 
 // Writes the record of a key in two parts to the head of dest, which has room for it. `records::put_joined` does the same
 // and asks first; it is called, and here a call for each entry would cost.

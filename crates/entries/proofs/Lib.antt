@@ -1,3 +1,4 @@
 pub mod Places
 pub mod Counts
 pub mod Checking
+pub mod Keys

@@ -9,7 +9,6 @@ use lib.ListN.{length, take, getD, length-append}
 use mir.Syntax.{w64}
 use mir.Val.{Fits}
 use Rattle.model.specs.keys.Key.{Key, IsPrefix}
-use Rattle.model.specs.records.Record.{recordSize, keyBytes}
 use Rattle.model.specs.inner.Places.{entryAt}
 use Rattle.model.specs.buckets.Bucket.{entrySize, entryOf, entryBytes, entries, translateEntry, TranslateBucket}
 use Rattle.model.specs.buckets.Index.{only}
@@ -33,16 +32,14 @@ module _ (l : List ℕ) (p : Key) where
   pub kept-most : (n : ℕ) → n ≤ length l / entrySize → keptBefore l p n ≤ n
   kept-most n h = rw (kept-is l p p n) (simple-most (entries l) p p n (omega (arith, length-entries l)))
 
-  module _ (i : ℕ) (h : i < length l / entrySize) (e k : List ℕ) (f : e ≡ entryAt l i) (g : k ≡ keyBytes (take recordSize e)) (t : Bool) (w : t ≡ IsPrefix p k) where
+  module _ (i : ℕ) (h : i < length l / entrySize) (e : List ℕ) (f : e ≡ entryAt l i) (t : Bool) (w : t ≡ IsPrefix p (entryOf e .key)) where
     here-is : getD (entries l) i (entryOf []) ≡ entryOf e
     unfolding entries
     here-is = rw f (getD-map entryOf (entryBytes l) i (entryOf []) [] (omega (arith, length-entryBytes l)))
 
     -- past an entry there is also what that leaves
     next-is : length (TranslateBucket (take (i + 1) (entries l)) p p) ≡ length (TranslateBucket (take i (entries l)) p p) + length (cond t (translateEntry p p (entryOf e) ∷ []) [])
-    next-is =
-        let u : t ≡ IsPrefix p (entryOf e .key) = unfold entryOf in (rw g at w) in
-        rw (u, simple-next (entries l) p p i (entryOf []) (omega (arith, length-entries l)), here-is, length-append)
+    next-is = rw (w, simple-next (entries l) p p i (entryOf []) (omega (arith, length-entries l)), here-is, length-append)
 
     -- nothing where its key doesn't begin with the prefix
     pub none-kept : not t ≡ true → keptBefore l p i + 0 ≡ keptBefore l p (i + 1)

@@ -1,6 +1,5 @@
 // How many entries are kept, from place to place.
 use model::PLACE_SIZE;
-use model::RECORD_SIZE;
 ghost use mathlib.Core.Path.{_≡_};
 ghost use Prim.Native.Nat.{_+_, _/_, _≤_, _<_};
 ghost use lib.ListN.{length};
@@ -14,9 +13,7 @@ fn kept_at(bucket: &[u8], i: usize, prefix: &[u8]) -> usize
     requires { ⌜ i < length (now bucket) / entrySize ⌝ }
     ensures { λ r. ⌜ keptBefore (now (bucket .entry)) (now (prefix .entry)) i + r ≡ keptBefore (now (bucket .entry)) (now (prefix .entry)) (i + 1) ⌝ }
 {
-    let entry = entries::entry_at(bucket, i);
-    let k = records::key_bytes(&entry[..RECORD_SIZE]);
-    if !scan::is_prefix_by_words(prefix, k) {
+    if !entries::begins_with(entries::entry_at(bucket, i), prefix) {
         return 0;
     }
     1

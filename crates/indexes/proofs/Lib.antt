@@ -1,4 +1,3 @@
-pub mod Entries
 pub mod Rise
 pub mod Places
 pub mod Checks

@@ -27,7 +27,7 @@ use Rattle.model.proofs.buckets.Below.{below-most}
 use Rattle.model.proofs.buckets.Index.{below-rises}
 use Rattle.model.proofs.buckets.IndexBytes.{aPlace, all-places, length-place, index-count, index-at}
 use Rattle.keys.specs.Padded.{Padded}
-use Rattle.indexes.specs.Rising.{Rising, CheckedBoth}
+use Rattle.entry_order.specs.Rising.{Rising, CheckedBoth}
 
 -- the places before i are written, and no entry that is passed is at or behind the pivot i
 pub record Merged (p l d₀ d : List ℕ) (below i : ℕ) : Type 0 where

@@ -19,8 +19,8 @@ use Rattle.model.proofs.calls.BucketCalls.{bucket-read}
 use Rattle.model.proofs.buckets.IndexBytes.{length-places}
 use Rattle.model.proofs.buckets.Below.{below-at, below-most}
 use Rattle.entries.proofs.Places.{length-entries}
-use Rattle.indexes.specs.Rising.{Rising}
-use Rattle.indexes.proofs.Entries.{none-such, key-here}
+use Rattle.entry_order.specs.Rising.{Rising}
+use Rattle.entry_order.proofs.Entries.{none-such, key-here}
 
 -- ---- the scan for a place: no entry before it isn't below
 

@@ -1,18 +1,16 @@
--- The pass over entries that compares each with the next, and the two ends of a bucket that rises.
+-- The two ends of a bucket that rises.
 use mathlib.Core.Path.{_≡_, refl, sym, _∙_}
 use mathlib.Core.Bool.{Bool, true, false, not, _&&_, true≢false}
-use mathlib.Core.List.{List, [], _∷_}
+use mathlib.Core.List.{List}
 use mathlib.Core.Logic.{⊎-elim}
-use Prim.Native.Nat.{ℕ, zero, suc, _+_, _-_, _/_, _≤_, _<_}
-use native.Mathlib.Numerals.{add-one}
+use Prim.Native.Nat.{ℕ, zero, suc, _-_, _/_, _<_}
 use native.Mathlib.Nat.{eq-or-lt-of-le}
 use native.Mathlib.Omega.{arith}
 use borrow.Author.Tests.{not-true, not-false}
-use lib.ListN.{length, drop, getD, length-drop}
-use lib.Seq.{drop-cons}
+use lib.ListN.{length, getD}
 use Rattle.model.specs.keys.Order.{key, lte, lt}
 use Rattle.model.specs.records.Record.{element, elements}
-use Rattle.model.specs.tables.Tables.{PivotTable, pivotAt, lastPivot, all, WFPivots, BoundedKey, risesFrom, IsStrictlySorted}
+use Rattle.model.specs.tables.Tables.{PivotTable, pivotAt, lastPivot, all, WFPivots, BoundedKey}
 use Rattle.model.specs.inner.Places.{recordAt, entryAt}
 use Rattle.model.specs.buckets.Bucket.{Entry, Bucket, entrySize, entryRecord, entryBytes, entries, entriesRise}
 use Rattle.model.specs.calls.BucketCalls.{entriesRead}
@@ -25,46 +23,8 @@ use Rattle.model.proofs.calls.BucketCalls.{bucket-read}
 use Rattle.model.proofs.buckets.Below.{rise-at}
 use Rattle.model.proofs.tables.Routing.{wf-count}
 use Rattle.entries.proofs.Places.{length-entries}
-use Rattle.indexes.specs.Rising.{Rising}
-use Rattle.indexes.proofs.Entries.{none-such, key-here}
-
--- ---- entries from a place on
-
--- one entry, or none, rises
-rise-short : (b : Bucket) → length b ≤ 1 → entriesRise b ≡ true
-unfolding entriesRise IsStrictlySorted risesFrom
-rise-short [] h = refl
-rise-short (e ∷ []) h = refl
-rise-short (e ∷ x ∷ b) h = absurd (omega arith)
-
-rise-on : (b : Bucket) (i : ℕ) (d : Entry) → i + 1 < length b
-    → entriesRise (drop i b) ≡ (lt (key (getD b i d .key)) (key (getD b (i + 1) d .key)) && entriesRise (drop (i + 1) b))
-unfolding entriesRise IsStrictlySorted risesFrom
-rise-on b i d h = rw (drop-cons b i d (omega arith), add-one i, drop-cons b (suc i) d (omega arith))
-
--- the entries rise if those from i on do
-module _ (l : List ℕ) (w : entriesRead (entryBytes l) ≡ true) (i : ℕ) (r : entriesRise (entries l) ≡ entriesRise (drop i (entries l))) where
-  -- at the end they do
-  pub rise-over : length l / entrySize ≤ i + 1 → true ≡ entriesRise (entries l)
-  rise-over h = rw r (sym (rise-short (drop i (entries l)) (omega (arith, length-drop i (entries l), length-entries l))))
-
-  module _ (h : i + 1 < length l / entrySize) (t : Bool)
-      (g : t ≡ lt (element (entryRecord (entryAt l i))) (element (entryRecord (entryAt l (i + 1))))) where
-    here-rises : (d : Entry) → entriesRise (entries l) ≡ (t && entriesRise (drop (i + 1) (entries l)))
-    here-rises d =
-        r
-        ∙ rise-on (entries l) i d (omega (arith, length-entries l))
-        ∙ rw (g, key-here l w i (omega arith) d, key-here l w (i + 1) h d)
-
-    -- an entry that isn't below the next makes the answer
-    pub falls : not t ≡ true → false ≡ entriesRise (entries l)
-    falls k = sym (rw (not-true t k) at (here-rises none-such))
-
-    -- else those after it do
-    pub rises-on : not t ≡ false → entriesRise (entries l) ≡ entriesRise (drop (i + 1) (entries l))
-    rises-on k = rw (not-false t k) at (here-rises none-such)
-
--- ---- the two ends
+use Rattle.entry_order.specs.Rising.{Rising}
+use Rattle.entry_order.proofs.Entries.{none-such, key-here}
 
 -- entries that rise are inside where the first isn't below the first pivot, and the last is below the last
 module _ (pt : PivotTable) (b : Bucket) (h : entriesRise b ≡ true) (n : 0 < length b) (d : Entry) where

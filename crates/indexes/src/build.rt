@@ -1,7 +1,7 @@
 // build_index.
-use crate::check::check_rising;
 use crate::entry::entries_outside;
 use crate::merge::write_index;
+use entry_order::check_rising;
 use model::Answer;
 use model::ENTRY_SIZE;
 use model::PLACE_SIZE;

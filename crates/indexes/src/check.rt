@@ -1,8 +1,8 @@
-// The check of pivots and a bucket, and of the index given with them.
+// The check of the index given with pivots and a bucket.
 use crate::entry::entries_outside;
-use crate::entry::entries_rise;
 use crate::merge::write_index;
 use crate::place::place_from;
+use entry_order::check_rising;
 use model::Answer;
 use model::ENTRY_SIZE;
 use model::MAX_LEN;
@@ -11,42 +11,16 @@ use model::PLACE_SIZE;
 use model::RECORD_SIZE;
 use model::Refusal;
 ghost use mathlib.Core.Path.{_≡_};
-ghost use mathlib.Core.Bool.{false, not, _||_};
-ghost use Prim.Native.Nat.{_/_};
+ghost use mathlib.Core.Bool.{not, _||_};
 ghost use lib.ListN.{length};
 ghost use Rattle.model.specs.keys.Key.{tooLong};
 ghost use Rattle.model.specs.keys.Order.{key};
-ghost use Rattle.model.specs.records.Record.{recordSize, elements};
+ghost use Rattle.model.specs.records.Record.{elements};
 ghost use Rattle.model.specs.buckets.Bucket.{entries};
 ghost use Rattle.model.specs.buckets.Index.{entriesBelow};
-ghost use Rattle.model.specs.calls.Refusals.{paired, answer};
-ghost use Rattle.model.specs.calls.TableCalls.{pivotCauses};
-ghost use Rattle.model.specs.calls.BucketCalls.{bucketCauses};
+ghost use Rattle.model.specs.calls.Refusals.{answer};
 ghost use Rattle.model.specs.calls.IndexCalls.{entriesInside, wrongIndex, givenCauses, checkIndexAnswer};
-ghost use Rattle.indexes.specs.Rising.{risingCauses, CheckedBoth};
-
-// Causes 1, 2 and 3 of pivots and bucket, by number over both; else the count of pivots.
-fn check_both(pivots: &[u8], bucket: &[u8], wrong: bool) -> Answer
-    ensures { λ r. ⌜ r ≡ answer (paired (pivotCauses false wrong (now (pivots .entry))) (bucketCauses false (now (bucket .entry)))) (length (now (pivots .entry)) / recordSize) ⌝ }
-{
-    let first = table_checks::check_pivots(pivots, false, wrong);
-    let second = entries::check_bucket(bucket, false);
-    refusals::earlier(first, second)
-}
-
-// Causes 1, 2, 3 and 14; else the count of pivots. The caller says whether another argument has cause 2.
-pub(crate) fn check_rising(pivots: &[u8], bucket: &[u8], wrong: bool) -> Answer
-    ensures { λ r. ⌜ r ≡ answer (risingCauses wrong (now (pivots .entry)) (now (bucket .entry))) (length (now (pivots .entry)) / recordSize) ⌝ }
-{
-    let checked = check_both(pivots, bucket, wrong);
-    let Answer::Value(_) = checked else {
-        return checked;
-    };
-    if !entries_rise(bucket) {
-        return Answer::Refused(Refusal::EntriesUnsorted);
-    }
-    checked
-}
+ghost use Rattle.entry_order.specs.Rising.{CheckedBoth};
 
 // Cause 5: whether an entry is outside the table, or another argument, as the caller says.
 fn is_outside(pivots: &[u8], bucket: &[u8], outside: bool) -> bool

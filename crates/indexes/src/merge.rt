@@ -10,7 +10,7 @@ ghost use Rattle.model.specs.records.Record.{elements};
 ghost use Rattle.model.specs.buckets.Index.{placeSize};
 ghost use Rattle.model.specs.calls.Refusals.{over};
 ghost use Rattle.model.specs.calls.IndexCalls.{indexBytes};
-ghost use Rattle.indexes.specs.Rising.{CheckedBoth};
+ghost use Rattle.entry_order.specs.Rising.{CheckedBoth};
 
 // Writes the index of a checked bucket to the head of dest. No entry is compared again for a later pivot once it is below one.
 pub(crate) fn write_index(pivots: &[u8], bucket: &[u8], dest: &mut [u8])

@@ -1,5 +1,5 @@
 // Places: the number of entries below an element, and a place as two bytes.
-use crate::entry::record_at;
+use entry_order::record_at;
 use model::ENTRY_SIZE;
 use model::PLACE_SIZE;
 ghost use mathlib.Core.Path.{_≡_};
@@ -14,7 +14,7 @@ ghost use Rattle.model.specs.buckets.Bucket.{entrySize, entryRecord, entryBytes
 ghost use Rattle.model.specs.buckets.Index.{entriesBelow, placeAt, encodePlace, places};
 ghost use Rattle.model.specs.calls.BucketCalls.{entriesRead};
 ghost use Rattle.keys.specs.Padded.{Padded};
-ghost use Rattle.indexes.specs.Rising.{Rising};
+ghost use Rattle.entry_order.specs.Rising.{Rising};
 
 // Whether the entry at a place is below what a record stands for.
 fn is_below(bucket: &[u8], i: usize, rec: &[u8]) -> bool

@@ -19,7 +19,7 @@ use Rattle.model.specs.calls.PairRecordCalls.{applyPairAnswer, applyPairLeaves}
 use Rattle.model.proofs.Lists.{rest}
 use Rattle.pairs.proofs.States.{long-old, long-new, not-there}
 use Rattle.pairs.proofs.Results.{apply-absent, keep-absent, apply-there, change-there}
-use Rattle.pair_records.proofs.Reading.{sized, flagged}
+use Rattle.pair_bytes.proofs.Reading.{sized, flagged}
 
 -- with a flag of 0 or 1 it is the pair's own call
 module _ (b d : List ℕ) (k : Key) (h : length b ≡ pairSize) (i : getD b 0 0 ≤ 1) where
@@ -51,19 +51,19 @@ module _ (b : List ℕ) (i : getD b 0 0 ≤ 1) (z : getD b 0 0 ≡ 0 → ⊥) wh
   unfolding stateAt
   is-there = let e : getD b 0 0 ≡ 1 = omega arith in rw e
 
-  module _ (x n : ℕ) (e : x ≡ lengthField (take (length b - 1) (drop 1 b))) (f : n ≡ x) where
+  module _ (n : ℕ) (e : n ≡ lengthField (take (length b - 1) (drop 1 b))) where
     old-length : n ≡ stateAt b .oldLength
     unfolding stateAt
-    old-length = f ∙ e ∙ rw rest
+    old-length = e ∙ rw rest
 
     -- it is malformed by its first length
     pub wrong-old : 64 < n → wrongPair b ≡ true
     wrong-old l = flagged b i ∙ sym (long-old (stateAt b) is-there (rw old-length at l))
 
-    module _ (y m : ℕ) (g : y ≡ lengthField (take (length b - 3) (drop 3 b))) (j : m ≡ y) (l : n ≤ 64) where
+    module _ (m : ℕ) (g : m ≡ lengthField (take (length b - 3) (drop 3 b))) (l : n ≤ 64) where
       new-length : m ≡ stateAt b .newLength
       unfolding stateAt
-      new-length = j ∙ g ∙ rw rest
+      new-length = g ∙ rw rest
 
       -- or by its second
       pub wrong-new : 64 < m → wrongPair b ≡ true

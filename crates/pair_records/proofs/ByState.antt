@@ -12,10 +12,10 @@ use Rattle.model.specs.translation.PairRecord.{pairSize, stateAt, pairAt}
 use Rattle.model.specs.calls.Refusals.{outcome}
 use Rattle.model.specs.calls.PairCalls.{reverseCauses, reverseAnswer, reversePair, composeCauses, composeAnswer, composePair}
 use Rattle.model.specs.calls.PairRecordCalls.{pairRoom, reversePairCauses, reversePairAnswer, reversePairLeaves, composePairsCauses, composePairsAnswer, composePairsLeaves}
-use Rattle.pair_records.specs.Placed.{stateRead, placedAnswer, placedLeaves}
-use Rattle.pair_records.proofs.Reading.{sized, flagged, record-read}
-use Rattle.pair_records.proofs.Lengths.{reverse-fits, compose-fits}
-use Rattle.pair_records.proofs.Placing.{placed-answer, placed-written}
+use Rattle.pair_bytes.specs.Placed.{stateRead, placedAnswer, placedLeaves}
+use Rattle.pair_bytes.proofs.Reading.{sized, flagged, record-read}
+use Rattle.pair_bytes.proofs.Lengths.{reverse-fits, compose-fits}
+use Rattle.pair_bytes.proofs.Placing.{placed-answer, placed-written}
 
 -- one record, whose flag is 0 or 1
 module _ (b d : List ℕ) (s : PairState) (e : s ≡ stateRead b) (h : length b ≡ pairSize) (i : getD b 0 0 ≤ 1) where

@@ -20,7 +20,7 @@ use Rattle.model.proofs.keys.Key.{prefix-length}
 use Rattle.model.proofs.ranges.RangePrefix.{prefix-of-left}
 use Rattle.model.proofs.calls.TableCalls.{not-too-long}
 use Rattle.model.proofs.calls.CutCalls.{cut-left-key, cut-left-short, cut-old-edge, cut-edge-short}
-use Rattle.pair_records.proofs.Lengths.{Fitting, beside-fits}
+use Rattle.pair_bytes.proofs.Lengths.{Fitting, beside-fits}
 
 -- a pair of a short prefix and a short edge is not long
 edge-pair-short : (p : Key) (e : Edge) → length p ≤ 64 → shortEdge e ≡ true → longPair (edgePair p e) ≡ false

@@ -9,5 +9,5 @@ pub fn translate_pair(pivots: &[u8], edges: &[u8], key: &[u8], dest: &mut [u8]) 
     ensures answered { λ r. ⌜ r ≡ translatePairAnswer (now (pivots .entry)) (now (edges .entry)) (now (key .entry)) (now (dest .entry)) ⌝ }
     ensures written { λ r. ⌜ now (dest .exit) ≡ translatePairLeaves (now (pivots .entry)) (now (edges .entry)) (now (key .entry)) (now (dest .entry)) ⌝ }
 {
-    pair_records::place_pair(translation::translate(pivots, edges, key), dest)
+    pair_bytes::place_pair(translation::translate(pivots, edges, key), dest)
 }

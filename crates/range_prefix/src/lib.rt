@@ -37,7 +37,7 @@ pub fn key_range_prefix(left: &[u8], right: &[u8]) -> usize
     if !is_next(left[n], right[n]) {
         return n;
     }
-    m + scan::ff_run(&left[m..])
+    m + byte_scans::ff_run(&left[m..])
 }
 
 // PivotLcp up to what a record stands for, whatever the record's bytes after the key.
@@ -46,7 +46,7 @@ pub fn range_prefix_len(left: &[u8], right: &[u8]) -> usize
     ensures { λ r. ⌜ r ≤ length (now (left .entry)) ⌝ }
 {
     if records::is_max(right) {
-        return scan::ff_run(left);
+        return byte_scans::ff_run(left);
     }
     key_range_prefix(left, records::key_bytes(right))
 }
@@ -79,7 +79,7 @@ pub fn has_range_prefix(left: &[u8], right: &[u8]) -> bool
     }
     let k = records::key_bytes(left);
     if records::is_max(right) {
-        return scan::byte_at(k, 0) == 255;
+        return byte_scans::byte_at(k, 0) == 255;
     }
     has_key_prefix(k, records::key_bytes(right))
 }

@@ -1,5 +1,5 @@
 -- A turn and the ends of each scan. An invariant says that what the whole list gives is the places passed and what is left.
-use mathlib.Core.Path.{_≡_, refl, sym}
+use mathlib.Core.Path.{_≡_, refl}
 use mathlib.Core.Logic.{⊎-elim}
 use mathlib.Core.Bool.{Bool, true, false}
 use mathlib.Core.List.{List, [], _∷_}
@@ -7,16 +7,11 @@ use Prim.Native.Nat.{ℕ, suc, _+_, _≤_, _<_, min}
 use native.Mathlib.Omega.{arith}
 use borrow.Author.Tests.{eq-eqb, ne-eqb}
 use lib.Dec.{eqb}
-use lib.ListN.{length, drop, getD, drop-of-length-le, List·getD-eq-default}
+use lib.ListN.{length, drop, getD, drop-of-length-le}
 use Rattle.model.specs.keys.Key.{IsPrefix, commonRun}
 use Rattle.model.specs.records.Record.{allZero}
-use Rattle.model.specs.ranges.RangePrefix.{lcpright}
 use Rattle.model.proofs.Lists.{drop-step, le-or-lt}
 use Rattle.model.proofs.keys.Key.{prefix-common}
-
--- past the end of a list there is no byte
-pub past-end : (a : List ℕ) (i : ℕ) → length a ≤ i → 0 ≡ getD a i 0
-past-end a i h = sym (List·getD-eq-default a 0 h)
 
 -- ---- the common run
 
@@ -56,26 +51,6 @@ module _ (a b : List ℕ) (i : ℕ) (h : i + length (commonRun (drop i a) (drop 
 pub prefix-run : (p k : List ℕ) (n : ℕ) → n ≡ length (commonRun p k) → eqb n (length p) ≡ IsPrefix p k
 prefix-run p k n e = rw (e, prefix-common)
 
--- ---- the run of FF
-
-module _ (a : List ℕ) (i : ℕ) (h : i + length (lcpright (drop i a)) ≡ length (lcpright a)) where
-  pub ff-turn : i < length a → getD a i 0 ≡ 255 → i + 1 + length (lcpright (drop (i + 1) a)) ≡ length (lcpright a)
-  unfolding lcpright
-  ff-turn p e =
-      let s : length (lcpright (drop i a)) ≡ suc (length (lcpright (drop (i + 1) a))) =
-      rw (drop-step a i p, eq-eqb (getD a i 0) 255 e) in
-      omega arith
-
-  pub ff-other : i < length a → (getD a i 0 ≡ 255 → ⊥) → i ≡ length (lcpright a)
-  unfolding lcpright
-  ff-other p e =
-      let s : length (lcpright (drop i a)) ≡ 0 = rw (drop-step a i p, ne-eqb (getD a i 0) 255 e) in
-      omega arith
-
-  pub ff-end : length a ≤ i → i ≡ length (lcpright a)
-  unfolding lcpright
-  ff-end p = let s : length (lcpright (drop i a)) ≡ 0 = rw (drop-of-length-le a p) in omega arith
-
 -- ---- zeros to the end
 
 module _ (a : List ℕ) (i : ℕ) (t : Bool) (h : allZero (drop i a) ≡ t) where
@@ -91,4 +66,4 @@ module _ (a : List ℕ) (i : ℕ) (t : Bool) (h : allZero (drop i a) ≡ t) wher
   unfolding allZero
   zero-end p = rw (drop-of-length-le a p) at h
 
-pub ruleset scans = (refl, past-end, ff-turn, ff-other, ff-end, zero-turn, zero-other, zero-end)
+pub ruleset scans = (refl, zero-turn, zero-other, zero-end)

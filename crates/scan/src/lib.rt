@@ -10,22 +10,11 @@ use words::zero_end;
 use words::zero_words;
 ghost use mathlib.Core.Path.{_≡_};
 ghost use Prim.Native.Nat.{_≤_, min};
-ghost use lib.ListN.{length, take, drop, getD};
+ghost use lib.ListN.{length, take, drop};
 ghost use Rattle.model.specs.keys.Key.{IsPrefix, commonRun};
 ghost use Rattle.model.specs.keys.Order.{key, cmp};
 ghost use Rattle.model.specs.records.Record.{allZero};
-ghost use Rattle.model.specs.ranges.RangePrefix.{lcpright};
 ghost use Rattle.scan.specs.Word.{whole};
-
-// The byte at a place, or 0 past the end.
-pub fn byte_at(s: &[u8], i: usize) -> u8
-    ensures { λ r. ⌜ r ≡ getD (now (s .entry)) i 0 ⌝ }
-{
-    if i < s.len() {
-        return s[i];
-    }
-    0
-}
 
 // The smaller of two numbers.
 pub fn least(a: usize, b: usize) -> usize
@@ -58,21 +47,6 @@ pub fn count_bytes(a: &[u8], b: &[u8]) -> usize
     let mut i = 0;
     while i < n {
         if a[i] != b[i] {
-            return i;
-        }
-        i += 1;
-    }
-    i
-}
-
-// The length of the leading run of FF.
-pub fn ff_run(a: &[u8]) -> usize
-    ensures { λ r. ⌜ r ≡ length (lcpright (now (a .entry))) ⌝ }
-    ensures { λ r. ⌜ r ≤ length (now (a .entry)) ⌝ }
-{
-    let mut i = 0;
-    while i < a.len() {
-        if a[i] != 255 {
             return i;
         }
         i += 1;

@@ -1,4 +1,3 @@
 pub mod Counts
-pub mod PivotPass
 pub mod EdgePass
 pub mod Table

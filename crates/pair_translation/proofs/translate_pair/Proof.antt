@@ -1,6 +1,6 @@
 -- `pair_translation::translate_pair` meets its contract.
 use Rattle.pair_translation.proofs.Lengths.{translate-fits}
-use Rattle.pair_records.proofs.Placing.{placed-answer, placed-written}
+use Rattle.pair_bytes.proofs.Placing.{placed-answer, placed-written}
 use borrow.Author.Needs.{needs}
 use Rattle.pair_translation.proofs.translate_pair.Statement.{statement}
 use Rattle.pair_translation.proofs.translate_pair.Tie as tie

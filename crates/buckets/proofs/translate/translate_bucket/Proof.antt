@@ -1,6 +1,7 @@
 -- `buckets::translate_bucket` meets its contract.
 use mathlib.Core.Path.{refl}
-use Rattle.buckets.proofs.Renaming.{check-good, check-refused-first, measure-handed, count-is, room-refused, no-cause, count-answered, entries-left}
+use Rattle.bucket_measures.proofs.Causes.{check-good, check-refused-first, count-is}
+use Rattle.buckets.proofs.Renaming.{measure-handed, room-refused, no-cause, count-answered, entries-left}
 use borrow.Author.Needs.{needs}
 use Rattle.buckets.proofs.translate.translate_bucket.Statement.{statement}
 use Rattle.buckets.proofs.translate.translate_bucket.Tie as tie

@@ -1,5 +1,5 @@
 -- `indexes::is_below` meets its contract.
-use Rattle.indexes.proofs.Entries.{below-told}
+use Rattle.entry_order.proofs.Entries.{below-told}
 use borrow.Author.Needs.{needs}
 use Rattle.indexes.proofs.place.is_below.Statement.{statement}
 use Rattle.indexes.proofs.place.is_below.Tie as tie

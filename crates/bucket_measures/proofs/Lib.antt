@@ -1,0 +1,4 @@
+pub mod Counts
+pub mod OneKept
+pub mod Measuring
+pub mod Causes
