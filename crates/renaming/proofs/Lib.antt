@@ -1,3 +1,2 @@
-pub mod KeyPass
 pub mod NewPivots
 pub mod GivenEnd

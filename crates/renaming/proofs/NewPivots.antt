@@ -25,8 +25,9 @@ use Rattle.model.proofs.calls.Refusals.{none-here, none-later}
 use Rattle.model.proofs.Lists.{over-all, all-inside}
 use Rattle.model.proofs.calls.TableCalls.{length-elements}
 use Rattle.model.proofs.calls.PivotKeys.{key-at}
-use Rattle.renaming.specs.Change.{changedPivots, Changeable}
-use Rattle.renaming.proofs.KeyPass.{but-count, but-at}
+use Rattle.changed_pivots.specs.Changed.{changedPivots}
+use Rattle.changed_pivots.proofs.KeyPass.{but-count, but-at}
+use Rattle.renaming.specs.Change.{Changeable}
 
 module _ (v p q : List ℕ) (c : Changeable v p q) where
   -- each pivot but the last begins with the prefix

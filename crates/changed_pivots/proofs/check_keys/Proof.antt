@@ -1,9 +1,9 @@
--- `renaming::check_keys` meets its contract.
+-- `changed_pivots::check_keys` meets its contract.
 use Prim.Native.Nat.{_-_}
 use borrow.Author.Needs.{needs}
-use Rattle.renaming.proofs.KeyPass.{Passing, pass-start, not-begun, pass-next, pass-long, pass-done}
-use Rattle.renaming.proofs.change.check_keys.Statement.{statement}
-use Rattle.renaming.proofs.change.check_keys.Tie as tie
+use Rattle.changed_pivots.proofs.KeyPass.{Passing, pass-start, not-begun, pass-next, pass-long, pass-done}
+use Rattle.changed_pivots.proofs.check_keys.Statement.{statement}
+use Rattle.changed_pivots.proofs.check_keys.Tie as tie
 
 ruleset rules = (needs, pass-start, not-begun, pass-next, pass-long, pass-done)
 

@@ -1,8 +1,8 @@
--- `renaming::misread` meets its contract.
-use Rattle.renaming.proofs.GivenEnd.{long-prefix, long-new-prefix, end-read}
+-- `changed_pivots::misread` meets its contract.
+use Rattle.changed_pivots.proofs.Given.{long-prefix, long-new-prefix, end-read}
 use borrow.Author.Needs.{needs}
-use Rattle.renaming.proofs.pivots.misread.Statement.{statement}
-use Rattle.renaming.proofs.pivots.misread.Tie as tie
+use Rattle.changed_pivots.proofs.misread.Statement.{statement}
+use Rattle.changed_pivots.proofs.misread.Tie as tie
 
 ruleset rules = (needs, long-prefix, long-new-prefix, end-read)
 

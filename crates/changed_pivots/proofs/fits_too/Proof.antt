@@ -1,8 +1,8 @@
--- `renaming::fits_too` meets its contract.
-use Rattle.renaming.proofs.KeyPass.{fit-here, fit-before}
+-- `changed_pivots::fits_too` meets its contract.
+use Rattle.changed_pivots.proofs.KeyPass.{fit-here, fit-before}
 use borrow.Author.Needs.{needs}
-use Rattle.renaming.proofs.change.fits_too.Statement.{statement}
-use Rattle.renaming.proofs.change.fits_too.Tie as tie
+use Rattle.changed_pivots.proofs.fits_too.Statement.{statement}
+use Rattle.changed_pivots.proofs.fits_too.Tie as tie
 
 ruleset rules = (needs, fit-here, fit-before)
 

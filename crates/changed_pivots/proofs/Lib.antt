@@ -1,0 +1,2 @@
+pub mod KeyPass
+pub mod Given
