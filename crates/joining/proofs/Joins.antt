@@ -1,46 +1,30 @@
--- The ways out of a join: the check of both tables, causes 13 and 12, and what is written.
-use mathlib.Core.Path.{_≡_, refl, sym, _∙_}
-use mathlib.Core.Bool.{Bool, true, false}
-use mathlib.Core.List.{List, [], _∷_, _++_}
-use mathlib.Core.Option.{none, some}
+-- The ways out of a join: the check of both tables, and what is written.
+use mathlib.Core.Path.{_≡_, _∙_}
+use mathlib.Core.Bool.{true, false}
+use mathlib.Core.List.{List, _++_}
+use mathlib.Core.Option.{none}
 use Prim.Native.Nat.{ℕ, _-_, _≤_}
 use native.Mathlib.Omega.{arith}
 use mir.Syntax.{w8}
 use mir.Val.{Fits}
 use lib.ListN.{length, take, drop, getD, take-append-drop}
 use Rattle.model.specs.declared.Refusal.{Refusal}
-use Rattle.model.specs.declared.Refusal.the-variants.{NotMeeting, TooManyPivots}
 use Rattle.model.specs.declared.Answer.{Answer}
 use Rattle.model.specs.declared.Answer.the-variants.{Value, Refused}
 use Rattle.model.specs.records.Record.{elements, encodeAll, encodeEdges}
-use Rattle.model.specs.tables.Tables.{all, shortElement, shortEdge, WFPivots}
-use Rattle.model.specs.cuts.Join.{notMeeting}
-use Rattle.model.specs.calls.Refusals.{_⇒_, outcome, first, answer}
-use Rattle.model.specs.calls.TableCalls.{pivotCauses, tableCauses}
+use Rattle.model.specs.tables.Tables.{all, shortElement, shortEdge}
+use Rattle.model.specs.calls.Refusals.{outcome, first, answer}
 use Rattle.model.specs.calls.CutCalls.{writeCauses}
-use Rattle.model.specs.calls.InsertionCalls.{tooManyPivots}
 use Rattle.model.specs.calls.JoinCalls.{twoTablesCauses, joinedPivots, joinedEdges, meetingCauses, joinCauses}
 use Rattle.model.proofs.Lists.{rest}
 use Rattle.model.proofs.keys.Key.{bytes-of}
 use Rattle.model.proofs.calls.Refusals.{accepted, refused, refused-first, after}
 use Rattle.model.proofs.calls.TableCalls.{table-wf, table-whole, table-count, table-edges-whole}
 use Rattle.model.proofs.calls.Writing.{short-room}
-use Rattle.model.proofs.calls.JoinCalls.{first-table, second-table, join-pivots-bytes, join-edges-bytes, join-pivots-short, join-edges-short, join-tables}
+use Rattle.model.proofs.calls.JoinCalls.{second-table, join-pivots-bytes, join-edges-bytes, join-pivots-short, join-edges-short, join-tables}
 use Rattle.model.proofs.tables.Routing.{wf-count}
-use Rattle.refusals.specs.Earlier.{earlier}
-use Rattle.refusals.proofs.InStep.{rising, inStep, told-earlier}
 
 module _ (p e q f : List ℕ) where
-  -- the causes of both tables go by the same numbers
-  in-step : inStep (tableCauses false false p e) (tableCauses false false q f) ≡ true
-  unfolding inStep rising tableCauses pivotCauses
-  in-step = refl
-
-  -- so the earlier refusal of the two checks is that of both
-  pub both-checked : (x a b : Answer) (m n : ℕ) → a ≡ answer (tableCauses false false p e) m → b ≡ answer (tableCauses false false q f) n
-      → x ≡ earlier a b → x ≡ answer (twoTablesCauses p e q f) m
-  both-checked x a b m n g h i = told-earlier (tableCauses false false p e) (tableCauses false false q f) m n x a b in-step g h i
-
   -- ---- what is written, where none of the causes 1 to 4, 13 and 12 applies
 
   module _ (h : first (meetingCauses p e q f) ≡ none) where
@@ -77,20 +61,10 @@ module _ (p e q f : List ℕ) where
   -- ---- where it ends
 
   module _ {A : Type 0} (g : Refusal → A) (v x : A) (dp de : List ℕ) where
-    -- at a cause of the tables
-    pub checks-refuse : (a : Answer) (m : ℕ) (r : Refusal) → a ≡ answer (twoTablesCauses p e q f) m → a ≡ Refused r → x ≡ g r
+    -- at a cause of the check
+    pub meeting-refuses : (a : Answer) (m : ℕ) (r : Refusal) → a ≡ answer (meetingCauses p e q f) m → a ≡ Refused r → x ≡ g r
         → x ≡ outcome g (joinCauses p e q f dp de) v
-    checks-refuse a m r b c d =
-        let o = refused-first some none (some r) (twoTablesCauses p e q f) _ r (refused (twoTablesCauses p e q f) m a b r c) refl in
-        refused-first g v x (meetingCauses p e q f) _ r (sym o) d
-
-    -- at 13
-    pub apart-refuses : first (meetingCauses p e q f) ≡ some NotMeeting → x ≡ g NotMeeting → x ≡ outcome g (joinCauses p e q f dp de) v
-    apart-refuses = refused-first g v x (meetingCauses p e q f) _ NotMeeting
-
-    -- at 12
-    pub many-refuse : first (meetingCauses p e q f) ≡ some TooManyPivots → x ≡ g TooManyPivots → x ≡ outcome g (joinCauses p e q f dp de) v
-    many-refuse = refused-first g v x (meetingCauses p e q f) _ TooManyPivots
+    meeting-refuses a m r b c d = refused-first g v x (meetingCauses p e q f) _ r (refused (meetingCauses p e q f) m a b r c) d
 
     -- or with what is written
     pub join-writes : first (meetingCauses p e q f) ≡ none → x ≡ outcome g (writeCauses (joinedPivots p q) (joinedEdges e f) dp de) v
@@ -98,27 +72,6 @@ module _ (p e q f : List ℕ) where
     join-writes h d =
         after g v x (meetingCauses p e q f) _ h (d ∙ short-room g v (joinedPivots p q) (joinedEdges e f) dp de (edges-short h))
 
--- a check that is passed says that neither table has a cause
-module _ (p e q f : List ℕ) (a : Answer) (m n : ℕ) (b : a ≡ answer (twoTablesCauses p e q f) m) (c : a ≡ Value n) where
-  none-checked : first (twoTablesCauses p e q f) ≡ none
-  none-checked = accepted (twoTablesCauses p e q f) m a b n c
-
-  pub first-checked : WFPivots (elements p) ≡ true
-  first-checked = table-wf false false p e (first-table p e q f none-checked)
-
-  pub second-checked : WFPivots (elements q) ≡ true
-  second-checked = table-wf false false q f (second-table p e q f none-checked)
-
-  -- then the first of 13 and 12 comes first
-  module _ (s t : Bool) (g : s ≡ notMeeting (elements p) (elements q)) (h : t ≡ tooManyPivots (joinedPivots p q)) where
-    then-first : first (meetingCauses p e q f) ≡ first ((s ⇒ NotMeeting) ∷ (t ⇒ TooManyPivots) ∷ [])
-    then-first = sym (after some none _ (twoTablesCauses p e q f) _ none-checked (rw (g, h)))
-
-    pub apart-first : s ≡ true → first (meetingCauses p e q f) ≡ some NotMeeting
-    apart-first i = then-first ∙ unfold outcome in rw i
-
-    pub many-first : s ≡ false → t ≡ true → first (meetingCauses p e q f) ≡ some TooManyPivots
-    many-first i j = then-first ∙ unfold outcome in rw (i, j)
-
-    pub they-meet : s ≡ false → t ≡ false → first (meetingCauses p e q f) ≡ none
-    they-meet i j = then-first ∙ unfold outcome in rw (i, j)
+-- a check that is passed says that the tables meet
+pub they-meet : (p e q f : List ℕ) (a : Answer) (m n : ℕ) → a ≡ answer (meetingCauses p e q f) m → a ≡ Value n → first (meetingCauses p e q f) ≡ none
+they-meet p e q f a m n b c = accepted (meetingCauses p e q f) m a b n c

@@ -1,2 +1,1 @@
 pub mod Joins
-pub mod Meets

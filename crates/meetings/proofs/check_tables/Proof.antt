@@ -1,8 +1,8 @@
--- `joining::check_tables` meets its contract.
-use Rattle.joining.proofs.Joins.{both-checked}
+-- `meetings::check_tables` meets its contract.
+use Rattle.meetings.proofs.Checks.{both-checked}
 use borrow.Author.Needs.{needs}
-use Rattle.joining.proofs.check_tables.Statement.{statement}
-use Rattle.joining.proofs.check_tables.Tie as tie
+use Rattle.meetings.proofs.check_tables.Statement.{statement}
+use Rattle.meetings.proofs.check_tables.Tie as tie
 
 ruleset rules = (needs, both-checked)
 

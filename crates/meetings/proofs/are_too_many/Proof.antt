@@ -1,9 +1,9 @@
--- `joining::are_too_many` meets its contract.
+-- `meetings::are_too_many` meets its contract.
 use Rattle.model.proofs.calls.PivotKeys.{last-counted}
-use Rattle.joining.proofs.Meets.{many-told}
+use Rattle.meetings.proofs.Meets.{many-told}
 use borrow.Author.Needs.{needs}
-use Rattle.joining.proofs.meet.are_too_many.Statement.{statement}
-use Rattle.joining.proofs.meet.are_too_many.Tie as tie
+use Rattle.meetings.proofs.are_too_many.Statement.{statement}
+use Rattle.meetings.proofs.are_too_many.Tie as tie
 
 ruleset rules = (needs, last-counted, many-told)
 

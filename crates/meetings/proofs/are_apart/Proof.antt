@@ -1,9 +1,9 @@
--- `joining::are_apart` meets its contract.
+-- `meetings::are_apart` meets its contract.
 use Rattle.model.proofs.calls.PivotKeys.{last-counted}
-use Rattle.joining.proofs.Meets.{apart-told}
+use Rattle.meetings.proofs.Meets.{apart-told}
 use borrow.Author.Needs.{needs}
-use Rattle.joining.proofs.meet.are_apart.Statement.{statement}
-use Rattle.joining.proofs.meet.are_apart.Tie as tie
+use Rattle.meetings.proofs.are_apart.Statement.{statement}
+use Rattle.meetings.proofs.are_apart.Tie as tie
 
 ruleset rules = (needs, last-counted, apart-told)
 
