@@ -1,12 +1,13 @@
 // The slot of a key in a table. No public function has a `requires`.
 use model::Answer;
-use model::MAX_LEN;
 use model::MAX_PIVOTS;
 use model::RECORD_SIZE;
 use model::Refusal;
 use model::Routed;
+use pivot_places::place_in_pivots;
+use pivot_places::place_in_table;
 ghost use mathlib.Core.Path.{_≡_};
-ghost use mathlib.Core.Bool.{true, not};
+ghost use mathlib.Core.Bool.{true, false, not};
 ghost use mathlib.Core.List.{_∷_, []};
 ghost use Rattle.model.specs.declared.Refusal.the-variants.{OutOfRange, AlreadyPivot, TooManyPivots};
 ghost use Rattle.model.specs.keys.Order.{key, passes, lastPlace};
@@ -18,30 +19,11 @@ ghost use Rattle.model.specs.cuts.Sides.{inside, cutoff};
 ghost use Rattle.model.specs.calls.TableCalls.{edgeSlotCauses};
 ghost use Rattle.model.specs.calls.InsertionCalls.{insertedPivots, tooManyPivots, newPivotCauses};
 
-// How many pivots are not above the key or, where strict, below it. They stand first, so the place is found by halving.
-fn place(pivots: &[u8], k: &[u8], strict: bool) -> usize
-    requires { ⌜ WFPivots (elements (now pivots)) ≡ true ⌝ }
-    ensures { λ r. ⌜ r ≡ lastPlace (passes strict (key (now (k .entry)))) (elements (now (pivots .entry))) ⌝ }
-{
-    let mut low = 0;
-    let mut high = pivots.len() / RECORD_SIZE;
-    while low < high {
-        let middle = low + (high - low) / 2;
-        if keys::passes(records::record_at(pivots, middle), k, strict) {
-            low = middle + 1;
-        } else {
-            high = middle;
-        }
-    }
-    low
-}
-
-// The slot that ends the pivots which pass, where there is one.
-fn slot_of(pivots: &[u8], k: &[u8], strict: bool) -> Routed
-    requires { ⌜ WFPivots (elements (now pivots)) ≡ true ⌝ }
+// The slot that ends the n pivots which pass, where there is one.
+fn slot_of(pivots: &[u8], k: &[u8], strict: bool, n: usize) -> Routed
+    requires { ⌜ (WFPivots (elements (now pivots)) ≡ true) × (n ≡ lastPlace (passes strict (key (now k))) (elements (now pivots))) ⌝ }
     ensures { λ r. ⌜ r ≡ routing ((not (inside strict (elements (now (pivots .entry))) (now (k .entry))) ⇒ OutOfRange) ∷ []) (cutoff strict (elements (now (pivots .entry))) (now (k .entry))) ⌝ }
 {
-    let n = place(pivots, k, strict);
     if n == 0 {
         return Routed::Refused(Refusal::OutOfRange);
     }
@@ -55,8 +37,8 @@ fn slot_of(pivots: &[u8], k: &[u8], strict: bool) -> Routed
 fn find_slot(pivots: &[u8], k: &[u8], strict: bool) -> Routed
     ensures { λ r. ⌜ r ≡ routing (slotCauses (now (pivots .entry)) (now (k .entry)) (inside strict (elements (now (pivots .entry))) (now (k .entry)))) (cutoff strict (elements (now (pivots .entry))) (now (k .entry))) ⌝ }
 {
-    match table_checks::check_pivots(pivots, false, MAX_LEN < k.len()) {
-        Answer::Value(_) => slot_of(pivots, k, strict),
+    match place_in_pivots(pivots, k, strict) {
+        Answer::Value(n) => slot_of(pivots, k, strict, n),
         Answer::Refused(r) => Routed::Refused(r),
     }
 }
@@ -65,18 +47,17 @@ fn find_slot(pivots: &[u8], k: &[u8], strict: bool) -> Routed
 pub fn slot_with_edges(pivots: &[u8], edges: &[u8], k: &[u8], left: bool) -> Routed
     ensures { λ r. ⌜ r ≡ routing (edgeSlotCauses (now (pivots .entry)) (now (edges .entry)) (now (k .entry)) (inside left (elements (now (pivots .entry))) (now (k .entry)))) (cutoff left (elements (now (pivots .entry))) (now (k .entry))) ⌝ }
 {
-    match table_checks::check_table(pivots, edges, false, MAX_LEN < k.len()) {
-        Answer::Value(_) => slot_of(pivots, k, left),
+    match place_in_table(pivots, edges, k, left) {
+        Answer::Value(n) => slot_of(pivots, k, left, n),
         Answer::Refused(r) => Routed::Refused(r),
     }
 }
 
-// The slot that the key is inserted into. Causes 5, 11 and 12.
-fn new_slot_of(pivots: &[u8], k: &[u8]) -> Routed
-    requires { ⌜ WFPivots (elements (now pivots)) ≡ true ⌝ }
+// The slot that the key is inserted into, where n pivots are not above it. Causes 5, 11 and 12.
+fn new_slot_of(pivots: &[u8], k: &[u8], n: usize) -> Routed
+    requires { ⌜ (WFPivots (elements (now pivots)) ≡ true) × (n ≡ lastPlace (passes false (key (now k))) (elements (now pivots))) ⌝ }
     ensures { λ r. ⌜ r ≡ routing ((not (ContainsRange (elements (now (pivots .entry))) (key (now (k .entry))) (key (now (k .entry)))) ⇒ OutOfRange) ∷ (isPivot (elements (now (pivots .entry))) (now (k .entry)) ⇒ AlreadyPivot) ∷ (tooManyPivots (insertedPivots (now (pivots .entry)) (now (k .entry))) ⇒ TooManyPivots) ∷ []) (Route (elements (now (pivots .entry))) (now (k .entry))) ⌝ }
 {
-    let n = place(pivots, k, false);
     if n == 0 {
         return Routed::Refused(Refusal::OutOfRange);
     }
@@ -99,8 +80,8 @@ fn new_slot_of(pivots: &[u8], k: &[u8]) -> Routed
 pub fn new_pivot_slot(pivots: &[u8], edges: &[u8], k: &[u8]) -> Routed
     ensures { λ r. ⌜ r ≡ routing (newPivotCauses (now (pivots .entry)) (now (edges .entry)) (now (k .entry))) (Route (elements (now (pivots .entry))) (now (k .entry))) ⌝ }
 {
-    match table_checks::check_table(pivots, edges, false, MAX_LEN < k.len()) {
-        Answer::Value(_) => new_slot_of(pivots, k),
+    match place_in_table(pivots, edges, k, false) {
+        Answer::Value(n) => new_slot_of(pivots, k, n),
         Answer::Refused(r) => Routed::Refused(r),
     }
 }

@@ -1,20 +1,20 @@
 -- `routing::find_slot` meets its contract.
-use Rattle.model.proofs.calls.Refusals.{handing-on}
+use Rattle.model.proofs.calls.Refusals.{handing-on, value-is}
 use Rattle.model.proofs.calls.TableCalls.{checked-wf}
 use borrow.Author.Needs.{needs}
 use Rattle.routing.proofs.find_slot.Statement.{statement}
 use Rattle.routing.proofs.find_slot.Tie as tie
 
-ruleset rules = (needs, checked-wf, handing-on)
+ruleset rules = (needs, value-is, checked-wf, handing-on)
 
-check-pivots-requires : tie.Need-check-pivots-requires
-check-pivots-requires c κs = search rules
+place-in-pivots-requires : tie.Need-place-in-pivots-requires
+place-in-pivots-requires c κs = search rules
 
-enum-told : tie.Need-enum-told
-enum-told c = search rules
+enum-known-n : tie.Need-enum-known-n
+enum-known-n c = search rules
 
 slot-of-requires : tie.Need-slot-of-requires
-slot-of-requires c κs = search rules
+slot-of-requires c κs = (search rules, search rules)
 
 enum-known-r : tie.Need-enum-known-r
 enum-known-r c = search rules
@@ -28,4 +28,4 @@ returns-2 c = search rules
 pub find-slot-spec : {M : Type 1} → statement M
 find-slot-spec =
     tie.close
-    (tie.spec check-pivots-requires enum-told slot-of-requires enum-known-r returns returns-2)
+    (tie.spec place-in-pivots-requires enum-known-n slot-of-requires enum-known-r returns returns-2)

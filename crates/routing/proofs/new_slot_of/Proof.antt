@@ -6,9 +6,6 @@ use Rattle.routing.proofs.new_slot_of.Tie as tie
 
 ruleset rules = (needs, below-all, a-pivot, above-all)
 
-place-requires : tie.Need-place-requires
-place-requires c κs = search rules
-
 returns : tie.Need-returns
 returns c = search rules
 
@@ -43,7 +40,6 @@ pub new-slot-of-spec : {M : Type 1} → statement M
 new-slot-of-spec =
     tie.close
     (tie.spec
-    place-requires
     returns
     sub-slot
     record-at-requires

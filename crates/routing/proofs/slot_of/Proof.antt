@@ -6,9 +6,6 @@ use Rattle.routing.proofs.slot_of.Tie as tie
 
 ruleset rules = (needs, before-first, past-last, between)
 
-place-requires : tie.Need-place-requires
-place-requires c κs = search rules
-
 returns : tie.Need-returns
 returns c = search rules
 
@@ -22,4 +19,4 @@ returns-3 : tie.Need-returns-3
 returns-3 c = search rules
 
 pub slot-of-spec : {M : Type 1} → statement M
-slot-of-spec = tie.close (tie.spec place-requires returns returns-2 sub-t7 returns-3)
+slot-of-spec = tie.close (tie.spec returns returns-2 sub-t7 returns-3)

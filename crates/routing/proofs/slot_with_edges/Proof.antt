@@ -1,20 +1,20 @@
 -- `routing::slot_with_edges` meets its contract.
-use Rattle.model.proofs.calls.Refusals.{handing-on}
+use Rattle.model.proofs.calls.Refusals.{handing-on, value-is}
 use Rattle.model.proofs.calls.TableCalls.{table-checked-wf}
 use borrow.Author.Needs.{needs}
 use Rattle.routing.proofs.slot_with_edges.Statement.{statement}
 use Rattle.routing.proofs.slot_with_edges.Tie as tie
 
-ruleset rules = (needs, handing-on, table-checked-wf)
+ruleset rules = (needs, value-is, handing-on, table-checked-wf)
 
-check-table-requires : tie.Need-check-table-requires
-check-table-requires c κs = search rules
+place-in-table-requires : tie.Need-place-in-table-requires
+place-in-table-requires c κs = search rules
 
-enum-told : tie.Need-enum-told
-enum-told c = search rules
+enum-known-n : tie.Need-enum-known-n
+enum-known-n c = search rules
 
 slot-of-requires : tie.Need-slot-of-requires
-slot-of-requires c κs = search rules
+slot-of-requires c κs = (search rules, search rules)
 
 enum-known-r : tie.Need-enum-known-r
 enum-known-r c = search rules
@@ -28,4 +28,4 @@ returns-2 c = search rules
 pub slot-with-edges-spec : {M : Type 1} → statement M
 slot-with-edges-spec =
     tie.close
-    (tie.spec check-table-requires enum-told slot-of-requires enum-known-r returns returns-2)
+    (tie.spec place-in-table-requires enum-known-n slot-of-requires enum-known-r returns returns-2)

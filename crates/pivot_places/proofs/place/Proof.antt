@@ -1,10 +1,10 @@
--- `routing::place` meets its contract.
+-- `pivot_places::place` meets its contract.
 use Prim.Native.Nat.{_-_}
 use native.Mathlib.Omega.{arith}
-use Rattle.routing.proofs.Placing.{Between, between-start, upper-half, lower-half, between-end}
+use Rattle.pivot_places.proofs.Placing.{Between, between-start, upper-half, lower-half, between-end}
 use borrow.Author.Needs.{needs}
-use Rattle.routing.proofs.place.Statement.{statement}
-use Rattle.routing.proofs.place.Tie as tie
+use Rattle.pivot_places.proofs.place.Statement.{statement}
+use Rattle.pivot_places.proofs.place.Tie as tie
 
 ruleset rules = (needs, between-start, between-end)
 
