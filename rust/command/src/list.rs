@@ -1,10 +1,10 @@
 //! `joistdenim list`.
 use crate::arguments::Arguments;
 use crate::failure::Done;
-use crate::refused::quoted;
+use crate::refused::put_quoted;
 use crate::{files, output, Streams};
 use joistdenim::{Edge, Element, Key, Slot, Table};
-use std::fmt::Write;
+use std::fmt::{Display, Write};
 
 pub fn run(arguments: &Arguments, streams: &mut Streams) -> Done {
     let [path] = arguments.exactly("one table")?;
@@ -21,47 +21,69 @@ pub fn run(arguments: &Arguments, streams: &mut Streams) -> Done {
 }
 
 /// Behind each line, as a comment, the characters of its keys.
-fn with_characters(text: &str, table: &Table, is_short: bool) -> String {
-    let slots = table.slots().map(|slot| match is_short {
-        true => short_slot(&slot),
-        false => full_slot(&slot),
-    });
-    let end = table.pivots().last().filter(|_| is_short);
-    let comments = slots.chain(end.map(|end| element(&end)));
-    let mut lines = text.lines();
+fn with_characters(list: &str, table: &Table, is_short: bool) -> String {
+    let mut lines = list.lines();
     let mut text = format!("{}\n", lines.next().unwrap_or_default());
-    for (line, comment) in lines.zip(comments) {
-        let _ = writeln!(text, "{line}\t# {comment}");
+    let mut end = None;
+    for (slot, line) in table.slots().zip(&mut lines) {
+        text.extend([line, "\t# "]);
+        match is_short {
+            true => put_short_slot(&mut text, &slot),
+            false => put_full_slot(&mut text, &slot),
+        }
+        text.push('\n');
+        end = Some(slot.right);
+    }
+    if let (Some(line), Some(end)) = (lines.next(), end) {
+        text.extend([line, "\t# "]);
+        put_element(&mut text, &end);
+        text.push('\n');
     }
     text
 }
 
-fn full_slot(slot: &Slot) -> String {
-    let (left, right) = (key(&slot.left), element(&slot.right));
-    format!("{left} {right} {} {}", key(&slot.shared), edge(&slot.edge))
+fn put_full_slot(text: &mut String, slot: &Slot) {
+    put_key(text, &slot.left);
+    text.push(' ');
+    put_element(text, &slot.right);
+    text.push(' ');
+    put_key(text, &slot.shared);
+    text.push(' ');
+    put_edge(text, &slot.edge);
 }
 
-fn short_slot(slot: &Slot) -> String {
-    let (left, edge) = (key(&slot.left), edge(&slot.edge));
-    match slot.edge.prefix() {
-        Some(_) => format!("{left} {}>{edge}", key(&slot.shared)),
-        None => format!("{left} {edge}"),
+fn put_short_slot(text: &mut String, slot: &Slot) {
+    put_key(text, &slot.left);
+    text.push(' ');
+    if slot.edge.prefix().is_some() {
+        put_key(text, &slot.shared);
+        text.push('>');
     }
+    put_edge(text, &slot.edge);
 }
 
 /// The characters of a key. What has none has its mark, as in the list.
-fn key(key: &Key) -> String {
+fn put_key(text: &mut String, key: &Key) {
     match key.is_empty() {
-        true => key.to_string(),
-        false => quoted(key.as_bytes()),
+        true => put(text, key),
+        false => put_quoted(text, key.as_bytes()),
     }
 }
 
-fn element(element: &Element) -> String {
-    element.key().map_or(element.to_string(), key)
+fn put_element(text: &mut String, element: &Element) {
+    match element {
+        Element::Key(key) => put_key(text, key),
+        Element::Max => put(text, element),
+    }
 }
 
-fn edge(edge: &Edge) -> String {
-    let prefix = edge.prefix().filter(|prefix| !prefix.is_empty());
-    prefix.map_or(edge.to_string(), key)
+fn put_edge(text: &mut String, edge: &Edge) {
+    match edge.prefix() {
+        Some(prefix) if !prefix.is_empty() => put_key(text, prefix),
+        _ => put(text, edge),
+    }
+}
+
+fn put(text: &mut String, value: &impl Display) {
+    let _ = write!(text, "{value}");
 }

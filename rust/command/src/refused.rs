@@ -90,12 +90,26 @@ pub fn key_of(bytes: &[u8]) -> Result<Key, Refused> {
 }
 
 pub fn digits(bytes: &[u8]) -> String {
-    bytes.iter().map(|byte| format!("{byte:02x}")).collect()
+    let mut text = String::with_capacity(2 * bytes.len());
+    for byte in bytes {
+        for digit in [byte >> 4, byte & 0xF] {
+            text.extend(char::from_digit(digit.into(), 16));
+        }
+    }
+    text
 }
 
 /// The characters of a key in quotation marks, those that can't be printed as escapes.
 pub fn quoted(bytes: &[u8]) -> String {
-    format!("\"{}\"", bytes.escape_ascii())
+    let mut text = String::new();
+    put_quoted(&mut text, bytes);
+    text
+}
+
+pub fn put_quoted(text: &mut String, bytes: &[u8]) {
+    text.push('"');
+    text.extend(bytes.escape_ascii().map(char::from));
+    text.push('"');
 }
 
 pub fn long_key(shown: &str, length: usize) -> String {

@@ -7,10 +7,11 @@ use crate::key::Key;
 use crate::keys::{pivot_key, pivot_lcp};
 use crate::list::list_table;
 use crate::pair::Pair;
+use crate::record::Record;
 use crate::refusal::Refusal;
 use crate::tables::{bounded_key, contains_all_keys, init_pivot_table, route, wf_edges};
 use crate::translation::translate_key;
-use crate::{MAX_LIST, MAX_PIVOTS, RECORD_SIZE};
+use crate::{MAX_LEN, MAX_PIVOTS, RECORD_SIZE};
 use std::fmt;
 
 /// Why a call that refuses 1 to 4 alone doesn't.
@@ -18,6 +19,11 @@ const WELL_FORMED: &str = "the table was checked when it was made";
 
 /// The bytes of the count that the list program's input begins with.
 const COUNT_SIZE: usize = 2;
+
+/// The bytes of a list's line of names, and the most of a slot's line: a number of two digits, four
+/// keys and what follows each field. Few tables are near the longest list.
+const LIST_HEAD: usize = "slot\tleft\tright\tshared\tedge\n".len();
+const MAX_LIST_LINE: usize = 2 + 4 * 2 * MAX_LEN + 5;
 
 /// A well-formed table: 2 to 64 pivots that rise strictly, and the edges of the slots between
 /// them. The library has checked it when it was made, and checks it again in each call.
@@ -73,7 +79,8 @@ impl Table {
     /// The table of these pivots and edges. Refuses 1, 2, 3, 4.
     pub fn new(pivots: &[Element], edges: &[Edge]) -> Result<Self, Refusal> {
         let (pivots, edges) = records_of(pivots, edges);
-        Table::from_records(&pivots, &edges)
+        wf_edges(&pivots, &edges)?;
+        Ok(Table { pivots, edges })
     }
 
     /// The table of these records, as the calls on slices are lent them. Refuses 1, 2, 3, 4.
@@ -151,7 +158,7 @@ impl Table {
         (0..self.edges.len() / RECORD_SIZE).map(|number| self.slot(number))
     }
 
-    fn slot(&self, number: usize) -> Slot {
+    pub(crate) fn slot(&self, number: usize) -> Slot {
         let slot = || -> Result<Slot, Refusal> {
             let left = Key::try_from(pivot_key(record_at(&self.pivots, number))?)?;
             let right = Element::try_from(record_at(&self.pivots, number + 1))?;
@@ -247,9 +254,9 @@ fn refused_slot(pivots: &[u8], edges: &[u8]) -> Option<usize> {
 
 /// The records of pivots and edges.
 pub(crate) fn records_of(pivots: &[Element], edges: &[Edge]) -> (Vec<u8>, Vec<u8>) {
-    let pivots = pivots.iter().flat_map(|pivot| *pivot.record());
-    let edges = edges.iter().flat_map(|edge| *edge.record());
-    (pivots.collect(), edges.collect())
+    let pivots: Vec<Record> = pivots.iter().map(|pivot| *pivot.record()).collect();
+    let edges: Vec<Record> = edges.iter().map(|edge| *edge.record()).collect();
+    (pivots.into_flattened(), edges.into_flattened())
 }
 
 /// The table that a call writes and answers the pivots of.
@@ -276,7 +283,7 @@ impl TryFrom<&[u8]> for Table {
 /// The list of the table, as `list_table` writes it.
 impl fmt::Display for Table {
     fn fmt(&self, f: &mut fmt::Formatter<'_>) -> fmt::Result {
-        let mut text = vec![0; MAX_LIST];
+        let mut text = vec![0; LIST_HEAD + self.slots().len() * MAX_LIST_LINE];
         let length = list_table(&self.to_bytes(), &mut text).expect("there is room for any list");
         f.write_str(std::str::from_utf8(&text[..length]).expect("a list is ASCII"))
     }

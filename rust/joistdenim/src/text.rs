@@ -11,6 +11,8 @@ pub const MAX: &str = "max";
 pub const NO_EDGE: &str = "-";
 pub const EMPTY_EDGE: &str = ".";
 
+const DIGITS: &[u8; 16] = b"0123456789abcdef";
+
 /// Why a text is no key, element or edge.
 #[derive(Clone, Copy, PartialEq, Eq)]
 #[non_exhaustive]
@@ -80,7 +82,7 @@ pub fn key_of(digits: &str) -> Result<Key, TextError> {
 
 /// The bytes of hexadecimal digits of either case, as many as there are.
 pub fn from_hex(digits: &str) -> Result<Vec<u8>, TextError> {
-    let mut bytes = vec![];
+    let mut bytes = Vec::with_capacity(digits.len() / 2);
     let mut high = None;
     for (place, found) in digits.chars().enumerate() {
         let no_digit = TextError::NoDigit { place, found };
@@ -107,6 +109,14 @@ pub fn is_max(text: &str) -> bool {
 pub fn write_key(f: &mut fmt::Formatter<'_>, key: &Key, empty: &str) -> fmt::Result {
     match key.as_bytes() {
         [] => f.pad(empty),
-        bytes => f.pad(&bytes.iter().map(|b| format!("{b:02x}")).collect::<String>()),
+        bytes => {
+            let mut digits = [0; 2 * MAX_LEN];
+            for (digits, byte) in digits.chunks_exact_mut(2).zip(bytes) {
+                digits[0] = DIGITS[usize::from(byte >> 4)];
+                digits[1] = DIGITS[usize::from(byte & 0xF)];
+            }
+            let digits = &digits[..2 * bytes.len()];
+            f.pad(std::str::from_utf8(digits).expect("digits are ASCII"))
+        }
     }
 }

@@ -153,8 +153,8 @@ fn both_ways(group: &mut Group, input: &[u8], list: &str) -> bool {
     expect(group, &["list", "-"], input, &listed);
     let made = expect(group, &["table"], list.as_bytes(), &table).output;
     expect(group, &["list", "-", "-o", "-"], &made, &listed);
-    for names in ["", "left\tedge\n"] {
-        let short = format!("{names}{}", short(list));
+    let named = short("left\tedge\n", list);
+    for short in [short("", list), named] {
         expect(group, &["table", "-"], short.as_bytes(), &table);
     }
     let printed = Ok(printed_short(list).into_bytes());
@@ -178,33 +178,40 @@ fn no_list(group: &mut Group, list: &str) {
     });
 }
 
-/// The short form, with spaces, comments and blank lines.
-fn short(list: &str) -> String {
-    let (mut text, mut end) = (String::from("# Left bounds and edges.\n\n"), "");
+/// The short form behind a line of names or none, with spaces, comments and blank lines.
+fn short(names: &str, list: &str) -> String {
+    let (mut text, mut end) = (String::new(), "");
+    text.extend([names, "# Left bounds and edges.\n\n"]);
     for [slot, left, right, _, edge] in slots(list) {
-        text += &format!("{left}  {edge} # slot {slot}\n");
+        text.extend([left, "  ", edge, " # slot ", slot, "\n"]);
         end = right;
     }
-    format!("{text} \n{end}")
+    text.extend([" \n", end]);
+    text
 }
 
 /// The short form as it is printed, with what each edge replaces.
 fn printed_short(list: &str) -> String {
     let (mut text, mut end) = (String::from("left\tedge\n"), "");
     for [_, left, right, shared, edge] in slots(list) {
-        text += &match edge {
-            "-" => format!("{left}\t-\n"),
-            _ => format!("{left}\t{shared}>{edge}\n"),
-        };
+        text.extend([left, "\t"]);
+        match edge {
+            "-" => text.push('-'),
+            _ => text.extend([shared, ">", edge]),
+        }
+        text.push('\n');
         end = right;
     }
-    format!("{text}{end}\n")
+    text.extend([end, "\n"]);
+    text
 }
 
 /// The fields of each line of a list.
 fn slots(list: &str) -> impl Iterator<Item = [&str; 5]> {
     list.lines().skip(1).map(|line| {
-        let fields: Vec<&str> = line.split('\t').collect();
-        fields.try_into().expect("a line has five fields")
+        let mut fields = line.split('\t');
+        let slot = [(); 5].map(|()| fields.next().expect("a line has five fields"));
+        assert_eq!(fields.next(), None, "a line has five fields");
+        slot
     })
 }

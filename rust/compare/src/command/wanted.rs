@@ -18,7 +18,13 @@ pub fn text(wanted: &Wanted, said: &str) -> String {
 
 /// The digits of a key; none of the empty one.
 pub fn digits(key: &[u8]) -> String {
-    key.iter().map(|byte| format!("{byte:02x}")).collect()
+    let mut text = String::with_capacity(2 * key.len());
+    for byte in key {
+        for digit in [byte >> 4, byte & 0xF] {
+            text.extend(char::from_digit(digit.into(), 16));
+        }
+    }
+    text
 }
 
 /// A key as it stands in texts.

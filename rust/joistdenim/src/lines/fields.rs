@@ -18,28 +18,32 @@ pub struct Rows<'a> {
 /// Blank lines, what follows a `#`, and a byte order mark are passed over.
 pub fn rows(text: &str) -> Rows<'_> {
     let text = text.strip_prefix('\u{feff}').unwrap_or(text);
-    let lines = text.lines().zip(1..);
-    let rows = lines.map(|(text, line)| fields(text, line));
-    let end = Place {
-        line: text.lines().count() + 1,
-        column: 1,
-    };
-    Rows {
-        rows: rows.filter(|row| !row.is_empty()).collect(),
-        end,
+    let mut rows = vec![];
+    let mut end = Place { line: 1, column: 1 };
+    for text in text.lines() {
+        let row = fields(text, end.line);
+        if !row.is_empty() {
+            rows.push(row);
+        }
+        end.line += 1;
     }
+    Rows { rows, end }
 }
+
+/// No line that is read has more: those of the list.
+const MOST_FIELDS: usize = 5;
 
 fn fields(text: &str, line: usize) -> Vec<Field<'_>> {
     let text = text.split('#').next().unwrap_or_default();
     let mut column = 1;
-    let mut fields = vec![];
+    let mut fields = Vec::with_capacity(MOST_FIELDS);
     for text in text.split([' ', '\t']) {
         let place = Place { line, column };
-        fields.push(Field { text, place });
+        if !text.is_empty() {
+            fields.push(Field { text, place });
+        }
         column += text.chars().count() + 1;
     }
-    fields.retain(|field| !field.text.is_empty());
     fields
 }
 

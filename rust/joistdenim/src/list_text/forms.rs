@@ -17,7 +17,6 @@ pub const SHORT: [&str; 2] = ["left", "edge"];
 const REFUSED: &str = "refused";
 
 /// The pivots and edges of a text, what it says that each slot shares, and where they stand.
-#[derive(Default)]
 pub struct Read {
     pub pivots: Vec<Element>,
     pub edges: Vec<Edge>,
@@ -29,21 +28,27 @@ pub struct Read {
 
 /// The line with the names of the fields tells the form, or the number of fields of the first.
 pub fn read(rows: &Rows) -> Result<Read, ListError> {
-    let read = Read {
-        end: rows.end,
-        ..Read::default()
-    };
+    let read = Read::with_room(rows);
     let Some((first, rest)) = rows.rows.split_first() else {
         return read.short(&rows.rows);
     };
-    let names = first.iter().map(|field| field.text.to_ascii_lowercase());
-    match &names.collect::<Vec<String>>()[..] {
-        [refused, ..] if refused == REFUSED => Err(first[0].fault(Fault::NoList)),
-        names if *names == FULL => read.full(rest),
-        names if *names == SHORT => read.short(rest),
+    match &first[..] {
+        [refused, ..] if is_named(refused, REFUSED) => Err(refused.fault(Fault::NoList)),
+        names if are_named(names, &FULL) => read.full(rest),
+        names if are_named(names, &SHORT) => read.short(rest),
         [_, _, _, _, _] => read.full(&rows.rows),
         _ => read.short(&rows.rows),
     }
+}
+
+/// A name may have letters of either case.
+fn is_named(field: &Field, name: &str) -> bool {
+    field.text.eq_ignore_ascii_case(name)
+}
+
+fn are_named(fields: &[Field], names: &[&str]) -> bool {
+    let mut pairs = fields.iter().zip(names);
+    fields.len() == names.len() && pairs.all(|(field, name)| is_named(field, name))
 }
 
 fn left_key(left: &Field) -> Result<Key, ListError> {
@@ -54,6 +59,19 @@ fn left_key(left: &Field) -> Result<Key, ListError> {
 }
 
 impl Read {
+    /// A line has a slot at most, and the last slot has an end.
+    fn with_room(rows: &Rows) -> Self {
+        let most = MAX_PIVOTS.min(rows.rows.len() + 1);
+        Read {
+            pivots: Vec::with_capacity(most),
+            edges: Vec::with_capacity(most),
+            shared: Vec::with_capacity(most),
+            pivots_at: Vec::with_capacity(most),
+            edges_at: Vec::with_capacity(most),
+            end: rows.end,
+        }
+    }
+
     fn full(mut self, rows: &[Vec<Field>]) -> Result<Self, ListError> {
         for (number, row) in rows.iter().enumerate() {
             let [slot, left, right, shared, edge] = row[..] else {
@@ -62,8 +80,9 @@ impl Read {
             if slot.text != number.to_string() {
                 return Err(slot.fault(Fault::Slot(number)));
             }
-            self.meets(&left)?;
-            self.push_pivot(Element::Key(left_key(&left)?), &left);
+            let key = left_key(&left)?;
+            self.meets(key)?;
+            self.push_pivot(Element::Key(key), &left);
             self.push_edge(of_list(&edge)?, &edge);
             self.shared.push(Some((shared.read()?, shared.place)));
             // The next left takes its place.
@@ -73,8 +92,7 @@ impl Read {
     }
 
     /// Whether the right bound before, if any, is the left one of this slot; it is dropped.
-    fn meets(&mut self, left: &Field) -> Result<(), ListError> {
-        let key = left_key(left)?;
+    fn meets(&mut self, key: Key) -> Result<(), ListError> {
         match (self.pivots.pop(), self.pivots_at.pop()) {
             (Some(right), Some(place)) if right != Element::Key(key) => {
                 let fault = Fault::Right(key);
@@ -166,14 +184,15 @@ impl Read {
 
     /// Whether the keys of each slot share what the text says of them.
     pub fn check_shared(&self, table: &Table) -> Result<(), ListError> {
-        for (slot, said) in table.slots().zip(&self.shared) {
-            match said {
-                Some((said, place)) if slot.shared != *said => {
-                    let fault = Fault::Shared(slot.shared, edge_for(&slot, said));
-                    let place = *place;
-                    return Err(ListError { place, fault });
-                }
-                _ => {}
+        for (number, said) in self.shared.iter().enumerate() {
+            let Some((said, place)) = said else {
+                continue;
+            };
+            let slot = table.slot(number);
+            if slot.shared != *said {
+                let fault = Fault::Shared(slot.shared, edge_for(&slot, said));
+                let place = *place;
+                return Err(ListError { place, fault });
             }
         }
         Ok(())

@@ -37,6 +37,7 @@ impl Table {
 impl fmt::Display for ShortForm<'_> {
     fn fmt(&self, f: &mut fmt::Formatter<'_>) -> fmt::Result {
         writeln!(f, "{}", SHORT.join("\t"))?;
+        let mut end = None;
         for slot in self.0.slots() {
             write!(f, "{}\t", slot.left)?;
             match slot.edge {
@@ -44,8 +45,8 @@ impl fmt::Display for ShortForm<'_> {
                 Edge::Absent => {}
             }
             writeln!(f, "{}", slot.edge)?;
+            end = Some(slot.right);
         }
-        let end = self.0.pivots().last();
         end.map_or(Ok(()), |end| writeln!(f, "{end}"))
     }
 }
