@@ -20,6 +20,8 @@ pub const MOST_TABLE: usize = table_size(MAX_PIVOTS);
 /// A bucket's bytes are read up to here, far more than it can have, to say how many entries there
 /// are too many.
 pub const MOST_COUNTED: usize = 100 * MAX_ENTRIES * ENTRY_SIZE;
+/// Most files are no longer: room is made for so much at once.
+const USUAL: usize = 4 << 10;
 /// The longest text, comments included.
 const MOST_TEXT: usize = 1 << 20;
 
@@ -59,7 +61,7 @@ impl Input {
 
 /// The file's bytes, or more than `most` where it has more.
 pub fn bytes(path: &OsStr, most: usize, streams: &mut Streams) -> Result<Vec<u8>, Failure> {
-    let mut bytes = vec![];
+    let mut bytes = Vec::with_capacity(USUAL);
     let limit = most as u64 + 1;
     let read = match path == STREAM {
         true => streams.input.take(limit).read_to_end(&mut bytes),
@@ -92,13 +94,14 @@ pub fn of_text<T: FromStr<Err = ListError>>(
         let text = format!("{name}: over {MOST_TEXT} bytes, which is no such text");
         return Err(Failure::File(text));
     }
-    String::from_utf8_lossy(&text)
-        .parse()
-        .map_err(|error: ListError| {
-            let place = format!("{name}, line {}, column {}", error.line(), error.column());
-            match error.refusal() {
-                Some(refusal) => Failure::refused(refusal, format!("{place}: {}", error.reason())),
-                None => Failure::File(format!("{place}: {}", error.reason())),
-            }
-        })
+    // Nearly every text is UTF-8, and then needn't be gone through character by character.
+    let text = String::from_utf8(text)
+        .unwrap_or_else(|error| String::from_utf8_lossy(error.as_bytes()).into_owned());
+    text.parse().map_err(|error: ListError| {
+        let place = format!("{name}, line {}, column {}", error.line(), error.column());
+        match error.refusal() {
+            Some(refusal) => Failure::refused(refusal, format!("{place}: {}", error.reason())),
+            None => Failure::File(format!("{place}: {}", error.reason())),
+        }
+    })
 }

@@ -93,8 +93,8 @@ impl Group {
         self.check(enough, || format!("too few cases of one sort: {sorts:?}"));
     }
 
-    /// The tables that its cases lent, as inputs of the list, each once.
-    pub fn tables(&self) -> impl Iterator<Item = &[u8]> {
+    /// The tables that its cases lent, as inputs of the list, each once, with its hash.
+    pub fn tables(&self) -> impl Iterator<Item = (u64, &[u8])> {
         self.tables.inputs()
     }
 

@@ -3,11 +3,13 @@ use crate::asked::Asked;
 use crate::call::Call;
 use crate::list_inputs::joined;
 use crate::table_inputs::absent;
-use std::collections::HashSet;
+use std::collections::HashMap;
+use std::hash::{DefaultHasher, Hash, Hasher};
 
 #[derive(Default)]
 pub struct LentTables {
-    inputs: HashSet<Vec<u8>>,
+    /// By their hashes, the same in every group, so that a table is hashed once.
+    inputs: HashMap<u64, Vec<u8>>,
     /// Those of the last case: cases of the same table come one after the other.
     last: Vec<[Vec<u8>; 2]>,
 }
@@ -24,14 +26,18 @@ impl LentTables {
         let owned = |table: [&[u8]; 2]| table.map(<[u8]>::to_vec);
         self.last = call.tables(asked).map(owned).collect();
         for [pivots, edges] in &self.last {
-            self.inputs.insert(match edges.is_empty() {
+            let input = match edges.is_empty() {
                 true => joined(pivots, &absent((pivots.len() / 66).saturating_sub(1))),
                 false => joined(pivots, edges),
-            });
+            };
+            let mut hasher = DefaultHasher::new();
+            input.hash(&mut hasher);
+            self.inputs.insert(hasher.finish(), input);
         }
     }
 
-    pub fn inputs(&self) -> impl Iterator<Item = &[u8]> {
-        self.inputs.iter().map(Vec::as_slice)
+    /// Each with its hash.
+    pub fn inputs(&self) -> impl Iterator<Item = (u64, &[u8])> {
+        self.inputs.iter().map(|(hash, input)| (*hash, &input[..]))
     }
 }

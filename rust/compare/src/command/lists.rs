@@ -12,7 +12,6 @@ use crate::list_inputs::joined;
 use crate::random::slices;
 use crate::table_inputs::{absent, distinct, rising};
 use std::collections::HashSet;
-use std::hash::{DefaultHasher, Hash, Hasher};
 use std::sync::Mutex;
 use vectors::Outcome;
 
@@ -83,10 +82,8 @@ pub struct EveryTable {
 
 impl EveryTable {
     pub fn of(&mut self, group: &Group, seen: &Seen) {
-        for input in group.tables() {
-            let mut hasher = DefaultHasher::new();
-            input.hash(&mut hasher);
-            if seen.lock().expect("no panic").insert(hasher.finish()) {
+        for (hash, input) in group.tables() {
+            if seen.lock().expect("no panic").insert(hash) {
                 let sort = both_ways(&mut self.group, input, &list_text(input));
                 self.sorts[usize::from(sort)] += 1;
             }

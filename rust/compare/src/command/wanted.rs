@@ -39,7 +39,8 @@ pub fn key_text(key: &[u8]) -> String {
 pub fn list_text(input: &[u8]) -> String {
     let mut dest = [0; ROOM];
     let length = reference::list_table(input, &mut dest).expect("there is room for any text");
-    String::from_utf8_lossy(&dest[..length]).into_owned()
+    let text = str::from_utf8(&dest[..length]).expect("a list is a text");
+    text.into()
 }
 
 /// The number in the text of a refusal.
