@@ -23,9 +23,11 @@ impl LentTables {
         if same {
             return;
         }
-        let owned = |table: [&[u8]; 2]| table.map(<[u8]>::to_vec);
-        self.last = call.tables(asked).map(owned).collect();
-        for [pivots, edges] in &self.last {
+        let count = call.tables(asked).count();
+        self.last.resize_with(count, Default::default);
+        for ([pivots, edges], last) in call.tables(asked).zip(&mut self.last) {
+            pivots.clone_into(&mut last[0]);
+            edges.clone_into(&mut last[1]);
             let input = match edges.is_empty() {
                 true => joined(pivots, &absent((pivots.len() / 66).saturating_sub(1))),
                 false => joined(pivots, edges),
