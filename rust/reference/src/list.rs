@@ -4,35 +4,28 @@ use crate::refusal::Refusal;
 use crate::table::Pivots;
 use crate::tables::table_and_key;
 
-const DIGITS: [char; 16] = [
-    '0', '1', '2', '3', '4', '5', '6', '7', '8', '9', 'a', 'b', 'c', 'd', 'e', 'f',
-];
-
 /// "Keys are lower-case hexadecimal" and "ε is `-`".
-fn put_key(key: &[u8], text: &mut String) {
-    if key.is_empty() {
-        text.push('-');
-    }
-    for byte in key {
-        text.push(DIGITS[usize::from(byte / 16)]);
-        text.push(DIGITS[usize::from(byte % 16)]);
+fn key_text(key: &[u8]) -> String {
+    match key {
+        [] => "-".to_string(),
+        _ => key.iter().map(|byte| format!("{byte:02x}")).collect(),
     }
 }
 
 /// "max is `max`".
-fn put_element(element: Element, text: &mut String) {
+fn element_text(element: Element) -> String {
     match element {
-        Element::Key(key) => put_key(key, text),
-        Element::Max => text.push_str("max"),
+        Element::Key(key) => key_text(key),
+        Element::Max => "max".to_string(),
     }
 }
 
 /// W6: "Write an empty edge as a single `.` in the last column. No edge stays `-`".
-fn put_edge(edge: Edge, text: &mut String) {
+fn edge_text(edge: Edge) -> String {
     match edge {
-        Edge::To([]) => text.push('.'),
-        Edge::To(prefix) => put_key(prefix, text),
-        Edge::Absent => text.push('-'),
+        Edge::To([]) => ".".to_string(),
+        Edge::To(prefix) => key_text(prefix),
+        Edge::Absent => "-".to_string(),
     }
 }
 
@@ -51,16 +44,11 @@ fn list(input: &[u8]) -> Result<String, Refusal> {
     let (pivots, edges) = table(input)?;
     let mut text = "slot\tleft\tright\tshared\tedge\n".to_string();
     for (slot, edge) in edges.into_iter().enumerate() {
-        text.push_str(&slot.to_string());
-        text.push('\t');
-        put_element(pivots.all()[slot], &mut text);
-        text.push('\t');
-        put_element(pivots.all()[slot + 1], &mut text);
-        text.push('\t');
-        put_key(pivots.slot_prefix(slot), &mut text);
-        text.push('\t');
-        put_edge(edge, &mut text);
-        text.push('\n');
+        let left = element_text(pivots.all()[slot]);
+        let right = element_text(pivots.all()[slot + 1]);
+        let shared = key_text(pivots.slot_prefix(slot));
+        let edge = edge_text(edge);
+        text += &format!("{slot}\t{left}\t{right}\t{shared}\t{edge}\n");
     }
     Ok(text)
 }

@@ -55,7 +55,7 @@ fn read(record: &Record) -> Result<Reading<'_>, Refusal> {
         }
         _ => return Err(Refusal::Malformed),
     };
-    refuse_if(*zeros != [0; MAX_LEN][..zeros.len()], Refusal::Malformed)?;
+    refuse_if(zeros.iter().any(|&b| b != 0), Refusal::Malformed)?;
     Ok(reading)
 }
 
