@@ -36,7 +36,7 @@
  * CHANGELOG.md says what a caller must do. */
 #define JD_VERSION_MAJOR 4
 #define JD_VERSION_MINOR 0
-#define JD_VERSION_PATCH 1
+#define JD_VERSION_PATCH 2
 
 #define JD_MAX_LEN 64
 #define JD_RECORD_SIZE 66
