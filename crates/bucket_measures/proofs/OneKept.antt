@@ -2,13 +2,16 @@
 use mathlib.Core.Path.{_≡_, sym, _∙_}
 use mathlib.Core.Bool.{Bool, true, false, cond, not}
 use mathlib.Core.List.{List, [], _∷_}
-use Prim.Native.Nat.{ℕ, _+_, _-_, _≤_, _<_}
+use Prim.Native.Nat.{ℕ, _+_, _-_, _≤_, _<_, min}
 use native.Mathlib.Omega.{arith}
 use borrow.Author.Tests.{not-true, not-false, le-leb, lt-leb}
-use lib.ListN.{length}
+use lib.ListN.{length, length-take, length-drop}
+use mir.Syntax.{w64}
+use mir.Val.{Fits}
 use Rattle.model.specs.declared.Refusal.the-variants.{TooLong}
 use Rattle.model.specs.declared.Answer.the-variants.{Value, Refused}
 use Rattle.model.specs.keys.Key.{Key, maxLen, IsPrefix, changePrefix}
+use Rattle.model.specs.records.Record.{recordSize, keyBytes}
 use Rattle.model.specs.tables.Tables.{all}
 use Rattle.model.specs.buckets.Bucket.{entryOf, translateEntry, TranslateBucket}
 use Rattle.model.specs.calls.Refusals.{outcome, answer}
@@ -20,6 +23,11 @@ use Rattle.bucket_measures.specs.Kept.{keptOf, longKept}
 pub one-left : (e : List ℕ) (p q : Key) → length (keptOf e p q) ≤ 1
 unfolding keptOf
 one-left e p q = translated-wft (entryOf e ∷ []) p q 0 (omega arith) .atMost
+
+-- its key lies within a record
+key-within : (e : List ℕ) → length (entryOf e .key) ≤ recordSize
+unfolding entryOf keyBytes
+key-within e = rw (length-take, length-drop, length-take) (omega arith)
 
 module _ (e : List ℕ) (p q : Key) (t : Bool) (g : t ≡ IsPrefix p (entryOf e .key)) where
   pub kept-is : keptOf e p q ≡ cond t (translateEntry p q (entryOf e) ∷ []) []
@@ -47,23 +55,23 @@ module _ (e : List ℕ) (p q : Key) (t : Bool) (g : t ≡ IsPrefix p (entryOf e 
     unfolding outcome all
     changed-long j = rw (one-is, lt-leb (length (changePrefix p q (entryOf e .key))) maxLen j)
 
-    -- which is refused where the new prefix alone has more than 64 bytes
-    pub new-refused : maxLen < length q → Refused TooLong ≡ answer (longKept (keptOf e p q)) (length (keptOf e p q))
-    new-refused j = changed-long (omega (arith, changed-length))
-
-    module _ (j : length q ≤ maxLen) (k : Key) (f : k ≡ entryOf e .key) where
+    module _ (n : ℕ) (j : n ≡ min (length q) (maxLen + 1)) (k : Key) (f : k ≡ entryOf e .key) where
       -- the key is no shorter than the prefix
       pub beyond-prefix : length p ≤ length k
       beyond-prefix = rw f (prefix-length p (entryOf e .key) begins)
 
+      -- the length of its changed key, up to a limit, is a number of the code
+      pub changed-fits : Fits w64 (n + (length k - length p))
+      changed-fits = record { fits = omega (arith, j, rw (← f) at (key-within e)) }
+
       changed-is : length (changePrefix p q (entryOf e .key)) ≡ length q + (length k - length p)
       changed-is = rw f changed-length
 
-      -- or where the rest of its key has no room after that
-      pub long-refused : maxLen - length q < length k - length p → Refused TooLong ≡ answer (longKept (keptOf e p q)) (length (keptOf e p q))
-      long-refused o = changed-long (omega (arith, changed-is))
+      -- which is refused where it passes 64 bytes
+      pub long-refused : maxLen < n + (length k - length p) → Refused TooLong ≡ answer (longKept (keptOf e p q)) (length (keptOf e p q))
+      long-refused o = changed-long (omega (arith, j, changed-is))
 
       -- and else counted
-      pub one-counted : length k - length p ≤ maxLen - length q → Value 1 ≡ answer (longKept (keptOf e p q)) (length (keptOf e p q))
+      pub one-counted : n + (length k - length p) ≤ maxLen → Value 1 ≡ answer (longKept (keptOf e p q)) (length (keptOf e p q))
       unfolding outcome all
-      one-counted o = rw (one-is, le-leb (length (changePrefix p q (entryOf e .key))) maxLen (omega (arith, changed-is)))
+      one-counted o = rw (one-is, le-leb (length (changePrefix p q (entryOf e .key))) maxLen (omega (arith, j, changed-is)))

@@ -17,17 +17,16 @@ ghost use Rattle.model.specs.calls.Refusals.{answer};
 ghost use Rattle.model.specs.calls.BucketCalls.{newBucket};
 ghost use Rattle.bucket_measures.specs.Kept.{keptOf, longKept};
 
-// Cause 8 of one entry; else 1 where it is kept, and 0 where its key doesn't begin with the prefix.
+// Cause 8 of one entry; else 1 where it is kept, and 0 where its key doesn't begin with the prefix. A new prefix that is too
+// long itself counts as one of 65 bytes, so that the sum can't wrap.
 fn measure_entry(entry: &[u8], prefix: &[u8], new_prefix: &[u8]) -> Answer
     ensures { λ r. ⌜ r ≡ answer (longKept (keptOf (now (entry .entry)) (now (prefix .entry)) (now («new_prefix» .entry)))) (length (keptOf (now (entry .entry)) (now (prefix .entry)) (now («new_prefix» .entry)))) ⌝ }
 {
     if !begins_with(entry, prefix) {
         return Answer::Value(0);
     }
-    if MAX_LEN < new_prefix.len() {
-        return Answer::Refused(Refusal::TooLong);
-    }
-    if MAX_LEN - new_prefix.len() < key_of(entry).len() - prefix.len() {
+    let n = scan::least(new_prefix.len(), MAX_LEN + 1);
+    if MAX_LEN < n + (key_of(entry).len() - prefix.len()) {
         return Answer::Refused(Refusal::TooLong);
     }
     Answer::Value(1)

@@ -1,7 +1,5 @@
 // The entries that are kept, written one after the other.
-use entries::begins_with;
 use entries::entry_at;
-use entries::key_of;
 use model::ENTRY_SIZE;
 use model::RECORD_SIZE;
 ghost use mathlib.Core.Path.{_≡_};
@@ -18,6 +16,23 @@ ghost use Rattle.model.specs.calls.Refusals.{first, over};
 ghost use Rattle.model.specs.calls.BucketCalls.{shortEntry, newBucket, translateBucketCauses};
 ghost use Rattle.bucket_measures.specs.Kept.{keptOf};
 ghost use Rattle.buckets.specs.Checked.{CheckedEntry, keptBytes};
+
+// The part of an entry that its key fills. `entries::key_of` does the same and asks for the length first; the loop below
+// can't know it, and a test for each entry would cost.
+fn key_of(entry: &[u8]) -> &[u8]
+    requires { ⌜ recordSize ≤ length (now entry) ⌝ }
+    ensures { λ r. ⌜ now r ≡ entryOf (now (entry .entry)) .key ⌝ }
+{
+    records::key_bytes(&entry[..RECORD_SIZE])
+}
+
+// Whether an entry's key begins with the prefix.
+fn begins_with(entry: &[u8], prefix: &[u8]) -> bool
+    requires { ⌜ recordSize ≤ length (now entry) ⌝ }
+    ensures { λ r. ⌜ r ≡ IsPrefix (now (prefix .entry)) (entryOf (now (entry .entry)) .key) ⌝ }
+{
+    scan::is_prefix_by_words(prefix, key_of(entry))
+}
 
 // Writes the record of a key in two parts to the head of dest, which has room for it. `records::put_joined` does the same
 // and asks first; it is called, and here a call for each entry would cost.

@@ -1,11 +1,11 @@
 -- `buckets::put_entry` meets its contract.
 use Rattle.bucket_measures.proofs.OneKept.{begins}
-use Rattle.buckets.proofs.OneEntry.{none-long, none-written, one-short, one-long, one-room, one-written}
+use Rattle.buckets.proofs.OneEntry.{record-first, none-long, none-written, one-short, one-long, one-room, one-written}
 use borrow.Author.Needs.{needs}
 use Rattle.buckets.proofs.write.put_entry.Statement.{statement}
 use Rattle.buckets.proofs.write.put_entry.Tie as tie
 
-ruleset rules = (needs, begins, none-long, none-written, one-short, one-long, one-room, one-written)
+ruleset rules = (needs, record-first, begins, none-long, none-written, one-short, one-long, one-room, one-written)
 
 begins-with-requires : tie.Need-begins-with-requires
 begins-with-requires c κs = search rules
