@@ -85,7 +85,7 @@ fn no_command(name: &str) -> Failure {
 }
 
 /// The day of this version, for the manual page.
-const DATE: &str = "2026-11-17";
+const DATE: &str = "2026-11-18";
 
 fn version() -> String {
     format!("joistdenim {}\n", env!("CARGO_PKG_VERSION"))
