@@ -20,7 +20,7 @@ use Rattle.model.proofs.Lists.{all-append}
 use Rattle.model.proofs.records.Record.{short-element}
 use Rattle.model.proofs.calls.Refusals.{after, handed-on-first, accepted}
 use Rattle.model.proofs.calls.TableCalls.{causes-wrong, causes-wf}
-use Rattle.changed_pivots.specs.Changed.{changedPivots, changeableCauses, givenCauses, Given, changedCauses}
+use Rattle.changed_pivots.specs.Renamed.{changedPivots, changeableCauses, withEndCauses, Given, renamedCauses}
 
 -- ---- cause 2 of the other arguments
 
@@ -70,15 +70,15 @@ module _ (v p q n : List ℕ) (h : Given v p q n) where
   only-changed = all-append shortElement (changedPivots v p q) (element n ∷ []) ∙ rw (short-element n end-element, and-true)
 
   -- with them 7 and 8 are those of the changed pivots
-  pub keys-decide : (b : Answer) (l : ℕ) → b ≡ answer (changeableCauses v p q) l → b ≡ answer (changedCauses v p q n) l
-  keys-decide b l e = after answers.Refused (answers.Value l) b (givenCauses v p q n) _ h (rw only-changed e)
+  pub keys-decide : (b : Answer) (l : ℕ) → b ≡ answer (changeableCauses v p q) l → b ≡ answer (renamedCauses v p q n) l
+  keys-decide b l e = after answers.Refused (answers.Value l) b (withEndCauses v p q n) _ h (rw only-changed e)
 
 -- ---- the check of the pivots with the other arguments
 
 module _ (v p q n : List ℕ) (bad : Bool) (m : ℕ) (z : Answer) (b : bad ≡ (tooLong p || tooLong q || notElement n))
     (e : z ≡ answer (pivotCauses (notRecord n) bad v) m) where
   -- the check is that of all arguments
-  found : z ≡ answer (givenCauses v p q n) m
+  found : z ≡ answer (withEndCauses v p q n) m
   found = rw b at e
 
   -- where it is passed, the arguments are as they must be
@@ -97,5 +97,5 @@ module _ (v p q n : List ℕ) (bad : Bool) (m : ℕ) (z : Answer) (b : bad ≡ (
   asked-new-prefix l k = given-new-prefix v p q n (given l k)
 
   -- where it is not, it decides
-  pub pivots-refused : (x : Answer) (w : ℕ) (r : Refusal) → z ≡ answers.Refused r → x ≡ answers.Refused r → x ≡ answer (changedCauses v p q n) w
+  pub pivots-refused : (x : Answer) (w : ℕ) (r : Refusal) → z ≡ answers.Refused r → x ≡ answers.Refused r → x ≡ answer (renamedCauses v p q n) w
   pivots-refused x w r k y = handed-on-first _ m z found answers.Refused (answers.Value w) x _ r k y

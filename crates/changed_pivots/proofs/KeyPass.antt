@@ -26,7 +26,7 @@ use Rattle.model.proofs.tables.Routing.{wf-count}
 use Rattle.model.proofs.calls.Refusals.{here, later, done}
 use Rattle.model.proofs.calls.TableCalls.{length-elements}
 use Rattle.model.proofs.calls.PivotKeys.{key-at}
-use Rattle.changed_pivots.specs.Changed.{changedPivots, changeableCauses}
+use Rattle.changed_pivots.specs.Renamed.{changedPivots, changeableCauses}
 
 -- ---- the pivots but the last
 

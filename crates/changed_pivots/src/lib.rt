@@ -13,7 +13,7 @@ ghost use Rattle.model.specs.records.Record.{recordSize, elements};
 ghost use Rattle.model.specs.tables.Tables.{WFPivots};
 ghost use Rattle.model.specs.calls.Refusals.{answer};
 ghost use Rattle.model.specs.calls.KeyCalls.{notElement};
-ghost use Rattle.changed_pivots.specs.Changed.{changeableCauses, changedCauses};
+ghost use Rattle.changed_pivots.specs.Renamed.{changeableCauses, renamedCauses};
 
 // Whether keys that fit so far fit with one of n bytes.
 fn fits_too(fit: bool, n: usize, most: usize) -> bool
@@ -65,7 +65,7 @@ fn misread(prefix: &[u8], new_prefix: &[u8], end: &[u8]) -> bool
 // Causes 1, 2, 3, 7 and 8 of pivots with prefix changed to new_prefix in each but the last, and the given end; else the
 // count of pivots.
 pub fn check_changed(pivots: &[u8], prefix: &[u8], new_prefix: &[u8], end: &[u8]) -> Answer
-    ensures { λ r. ⌜ r ≡ answer (changedCauses (now (pivots .entry)) (now (prefix .entry)) (now («new_prefix» .entry)) (now (end .entry))) (length (now (pivots .entry)) / recordSize) ⌝ }
+    ensures { λ r. ⌜ r ≡ answer (renamedCauses (now (pivots .entry)) (now (prefix .entry)) (now («new_prefix» .entry)) (now (end .entry))) (length (now (pivots .entry)) / recordSize) ⌝ }
 {
     let bad = misread(prefix, new_prefix, end);
     let found = pivot_checks::check_pivots(pivots, end.len() != RECORD_SIZE, bad);

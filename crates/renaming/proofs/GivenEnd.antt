@@ -28,7 +28,7 @@ use Rattle.model.proofs.records.Records.{joined-append, length-encodeAll}
 use Rattle.model.proofs.records.InTurn.{over-on}
 use Rattle.model.proofs.calls.Refusals.{here, later, done, handed-on-first, call-passed-first, accepted, none-before, none-after}
 use Rattle.model.proofs.calls.TableCalls.{length-elements, causes-shape, causes-whole, causes-least}
-use Rattle.changed_pivots.specs.Changed.{changedPivots, givenCauses, Given, changedCauses}
+use Rattle.changed_pivots.specs.Renamed.{changedPivots, withEndCauses, Given, renamedCauses}
 use Rattle.changed_pivots.proofs.KeyPass.{but-count}
 use Rattle.changed_pivots.proofs.Given.{given-wf, end-element, only-changed}
 use Rattle.renaming.specs.Change.{endCauses, Changeable}
@@ -132,27 +132,27 @@ module _ (v p q n : List ℕ) (h : Given v p q n) where
 
 -- ---- the causes 9 and 10 behind the others
 
-module _ (v p q n d : List ℕ) (z : Answer) (m : ℕ) (e : z ≡ answer (changedCauses v p q n) m) where
-  all-causes : pivotsCauses v p q n d ≡ changedCauses v p q n ++ endCauses v p q n d
-  all-causes = sym (append-assoc (givenCauses v p q n) _ (endCauses v p q n d))
+module _ (v p q n d : List ℕ) (z : Answer) (m : ℕ) (e : z ≡ answer (renamedCauses v p q n) m) where
+  all-causes : pivotsCauses v p q n d ≡ renamedCauses v p q n ++ endCauses v p q n d
+  all-causes = sym (append-assoc (withEndCauses v p q n) _ (endCauses v p q n d))
 
   -- a refusal of the check decides
   pub keys-refused : {A : Type 0} (f : Refusal → A) (w x : A) (r : Refusal) → z ≡ answers.Refused r → x ≡ f r → x ≡ outcome f (pivotsCauses v p q n d) w
-  keys-refused f w x r k y = rw all-causes (handed-on-first (changedCauses v p q n) m z e f w x (endCauses v p q n d) r k y)
+  keys-refused f w x r k y = rw all-causes (handed-on-first (renamedCauses v p q n) m z e f w x (endCauses v p q n d) r k y)
 
   -- where it has none, the end and the destination decide
   pub keys-passed : {A : Type 0} (f : Refusal → A) (w x : A) (l : ℕ) → z ≡ answers.Value l → x ≡ outcome f (endCauses v p q n d) w → x ≡ outcome f (pivotsCauses v p q n d) w
-  keys-passed f w x l k y = rw all-causes (call-passed-first (changedCauses v p q n) m z e f w x (endCauses v p q n d) l k y)
+  keys-passed f w x l k y = rw all-causes (call-passed-first (renamedCauses v p q n) m z e f w x (endCauses v p q n d) l k y)
 
-module _ (v p q n : List ℕ) (z : Answer) (m : ℕ) (e : z ≡ answer (changedCauses v p q n) m) (l : ℕ) (k : z ≡ answers.Value l) where
-  none-applies : first (changedCauses v p q n) ≡ none
-  none-applies = accepted (changedCauses v p q n) m z e l k
+module _ (v p q n : List ℕ) (z : Answer) (m : ℕ) (e : z ≡ answer (renamedCauses v p q n) m) (l : ℕ) (k : z ≡ answers.Value l) where
+  none-applies : first (renamedCauses v p q n) ≡ none
+  none-applies = accepted (renamedCauses v p q n) m z e l k
 
   -- and the arguments are as they must be
   pub keys-given : Given v p q n
-  keys-given = none-before (givenCauses v p q n) _ none-applies
+  keys-given = none-before (withEndCauses v p q n) _ none-applies
 
   -- so that the prefix can be changed
   pub keys-changeable : Changeable v p q
   keys-changeable =
-      record { wf = given-wf v p q n keys-given; none-applies = rw (only-changed v p q n keys-given) at (none-after (givenCauses v p q n) _ none-applies) }
+      record { wf = given-wf v p q n keys-given; none-applies = rw (only-changed v p q n keys-given) at (none-after (withEndCauses v p q n) _ none-applies) }

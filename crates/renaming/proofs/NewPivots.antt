@@ -25,7 +25,7 @@ use Rattle.model.proofs.calls.Refusals.{none-here, none-later}
 use Rattle.model.proofs.Lists.{over-all, all-inside}
 use Rattle.model.proofs.calls.TableCalls.{length-elements}
 use Rattle.model.proofs.calls.PivotKeys.{key-at}
-use Rattle.changed_pivots.specs.Changed.{changedPivots}
+use Rattle.changed_pivots.specs.Renamed.{changedPivots}
 use Rattle.changed_pivots.proofs.KeyPass.{but-count, but-at}
 use Rattle.renaming.specs.Change.{Changeable}
 

@@ -13,7 +13,7 @@ use Rattle.model.specs.tables.Tables.{WFPivots}
 use Rattle.model.specs.calls.Refusals.{Cause, _⇒_, first}
 use Rattle.model.specs.calls.KeyCalls.{noRoom}
 use Rattle.model.specs.calls.RenamingCalls.{newPivots, lastTranslated}
-use Rattle.changed_pivots.specs.Changed.{changeableCauses}
+use Rattle.changed_pivots.specs.Renamed.{changeableCauses}
 
 -- causes 9 and 10, with the end n and the destination d
 abbrev pub endCauses : List ℕ → Key → Key → List ℕ → List ℕ → List Cause

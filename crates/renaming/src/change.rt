@@ -8,7 +8,7 @@ ghost use Rattle.model.specs.records.Record.{recordSize, elements, encode, enco
 ghost use Rattle.model.specs.tables.Tables.{pivotAt};
 ghost use Rattle.model.specs.translation.Renaming.{TranslateElement};
 ghost use Rattle.model.specs.calls.Refusals.{over};
-ghost use Rattle.changed_pivots.specs.Changed.{changedPivots};
+ghost use Rattle.changed_pivots.specs.Renamed.{changedPivots};
 ghost use Rattle.renaming.specs.Change.{Changeable};
 
 // The record of pivot i, not the last, with its prefix changed, at the head of dest.

@@ -12,7 +12,7 @@ ghost use Rattle.model.specs.keys.Order.{lt};
 ghost use Rattle.model.specs.records.Record.{element, encodeAll};
 ghost use Rattle.model.specs.calls.Refusals.{answer, leaves, over};
 ghost use Rattle.model.specs.calls.RenamingCalls.{newPivots, lastTranslated, pivotsAnswer, pivotsLeaves};
-ghost use Rattle.changed_pivots.specs.Changed.{Given};
+ghost use Rattle.changed_pivots.specs.Renamed.{Given};
 ghost use Rattle.renaming.specs.Change.{endCauses, Changeable};
 
 // Whether the last translated key is below the end.

@@ -4,7 +4,7 @@ use Prim.Native.Nat.{_-_, _≤_}
 use lib.ListN.{length, take}
 use Rattle.model.specs.records.Record.{encodeAll}
 use Rattle.model.specs.calls.Refusals.{over}
-use Rattle.changed_pivots.specs.Changed.{changedPivots}
+use Rattle.changed_pivots.specs.Renamed.{changedPivots}
 use Rattle.renaming.proofs.NewPivots.{one-pivot, changed-start, changed-next, changed-end}
 use borrow.Author.Needs.{needs}
 use Rattle.renaming.proofs.change.write_changed.Statement.{statement}

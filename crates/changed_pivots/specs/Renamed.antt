@@ -25,16 +25,16 @@ changeableCauses v p q =
     (not (all shortElement (changedPivots v p q)) ⇒ TooLong) ∷ []
 
 -- causes 1 to 3
-abbrev pub givenCauses : List ℕ → Key → Key → List ℕ → List Cause
-givenCauses v p q n = pivotCauses (notRecord n) (tooLong p || tooLong q || notElement n) v
+abbrev pub withEndCauses : List ℕ → Key → Key → List ℕ → List Cause
+withEndCauses v p q n = pivotCauses (notRecord n) (tooLong p || tooLong q || notElement n) v
 
 -- none of these applies
 abbrev pub Given : List ℕ → Key → Key → List ℕ → Type 0
-Given v p q n = first (givenCauses v p q n) ≡ none
+Given v p q n = first (withEndCauses v p q n) ≡ none
 
 -- and then 7 and 8 of all new pivots: where TranslatePivots' list begins
-abbrev pub changedCauses : List ℕ → Key → Key → List ℕ → List Cause
-changedCauses v p q n =
-    givenCauses v p q n
+abbrev pub renamedCauses : List ℕ → Key → Key → List ℕ → List Cause
+renamedCauses v p q n =
+    withEndCauses v p q n
     ++ (not (all (begun p) (butLast (elements v))) ⇒ NotPrefix) ∷
     (not (all shortElement (newPivots v p q n)) ⇒ TooLong) ∷ []
