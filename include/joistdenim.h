@@ -4,7 +4,7 @@
  *
  * One rule for every function:
  * - It returns 0, or the number of the first refusal that applies over all arguments, in the
- *   order in which the function names them: 16, 1, 2, 3, 4, 13, 14, 5, 11, 12, 15, 6, 7, 8, 9, 10.
+ *   order in which the function names them: 1, 2, 3, 4, 13, 14, 5, 11, 12, 15, 6, 7, 8, 9, 10.
  * - What it answers goes through the last parameter, a pointer to one number.
  *   A refusal leaves that number, like every lent byte, as it was.
  * - A slice is a pointer and a length in bytes. A slice that is written overlaps nothing else
@@ -25,12 +25,6 @@
  * byte 5 on; the new one from byte 69 on. Another flag is malformed, and so is a length over
  * JD_MAX_LEN in a pair that is there. Bytes past a length, and all after the flag of an absent
  * pair, are not looked at in an argument and are zero in a result.
- *
- * A walk leads a tag through tables, one after the other. It has JD_WALK_SIZE bytes: the tag's
- * length in two bytes, high byte first, and the tag in JD_MAX_LEN bytes; the current key in the
- * same way, from byte 66 on; from byte 132 on a pair, which takes the tag to the current key; and
- * the count of its steps, byte 265. Bytes past a length are not looked at in an argument and are
- * zero in a result, as a pair's are.
  */
 #ifndef JOISTDENIM_H
 #define JOISTDENIM_H
@@ -41,19 +35,17 @@
 /* The version. A new call raises the minor; a changed signature, answer or format the major.
  * CHANGELOG.md says what a caller must do. */
 #define JD_VERSION_MAJOR 4
-#define JD_VERSION_MINOR 1
-#define JD_VERSION_PATCH 0
+#define JD_VERSION_MINOR 0
+#define JD_VERSION_PATCH 2
 
 #define JD_MAX_LEN 64
 #define JD_RECORD_SIZE 66
 #define JD_ENTRY_SIZE 70
 #define JD_PAIR_SIZE 133
-#define JD_WALK_SIZE 266
 #define JD_PLACE_SIZE 2
 #define JD_MIN_PIVOTS 2
 #define JD_MAX_PIVOTS 64
 #define JD_MAX_ENTRIES 512
-#define JD_MAX_STEPS 8
 #define JD_MAX_LIST 32715 /* the bytes of the longest list of a table */
 
 /* The two marks in a record's length field. */
@@ -61,13 +53,13 @@
 #define JD_MAX 65535
 
 enum jd_refusal {
-    JD_SHAPE = 1,             /* a slice isn't the records, entries, pair or walk it should be */
-    JD_MALFORMED = 2,         /* a malformed record, pair or walk, a wrong mark, or a key over 64 bytes */
+    JD_SHAPE = 1,             /* a slice isn't the records, entries or pair it should be */
+    JD_MALFORMED = 2,         /* a malformed record or pair, a wrong mark, or a key over 64 bytes */
     JD_UNSORTED = 3,          /* pivots don't rise strictly */
     JD_EMPTY_PREFIX = 4,      /* an edge where the range's prefix is empty */
     JD_OUT_OF_RANGE = 5,      /* a key is outside the table's range */
     JD_NO_SUCH_SLOT = 6,      /* no such slot, or no key at that place */
-    JD_NOT_PREFIX = 7,        /* an old prefix doesn't begin what it must, or a walk's pair gives another key */
+    JD_NOT_PREFIX = 7,        /* an old prefix doesn't begin what it must */
     JD_TOO_LONG = 8,          /* a produced key or prefix passes 64 bytes */
     JD_NOT_BELOW = 9,         /* left isn't below right, or the last new pivot below the end */
     JD_NO_ROOM = 10,          /* a destination is too short */
@@ -75,8 +67,7 @@ enum jd_refusal {
     JD_TOO_MANY_PIVOTS = 12,  /* the table would have more than 64 pivots */
     JD_NOT_MEETING = 13,      /* the tables don't meet: one's last pivot isn't the other's first */
     JD_ENTRIES_UNSORTED = 14, /* the keys of a bucket don't rise strictly */
-    JD_WRONG_INDEX = 15,      /* an index isn't the one that belongs to table and bucket */
-    JD_WALK_TOO_LONG = 16     /* the walk has had its eight steps */
+    JD_WRONG_INDEX = 15       /* an index isn't the one that belongs to table and bucket */
 };
 
 /* What a call returned means, told in the words above. */
@@ -84,13 +75,13 @@ static inline const char *jd_refusal_text(uint32_t refusal)
 {
     switch (refusal) {
     case 0: return "accepted";
-    case JD_SHAPE: return "a slice isn't the records, entries, pair or walk it should be";
-    case JD_MALFORMED: return "a malformed record, pair or walk, a wrong mark, or a key over 64 bytes";
+    case JD_SHAPE: return "a slice isn't the records, entries or pair it should be";
+    case JD_MALFORMED: return "a malformed record or pair, a wrong mark, or a key over 64 bytes";
     case JD_UNSORTED: return "pivots don't rise strictly";
     case JD_EMPTY_PREFIX: return "an edge where the range's prefix is empty";
     case JD_OUT_OF_RANGE: return "a key is outside the table's range";
     case JD_NO_SUCH_SLOT: return "no such slot, or no key at that place";
-    case JD_NOT_PREFIX: return "an old prefix doesn't begin what it must, or a walk's pair gives another key";
+    case JD_NOT_PREFIX: return "an old prefix doesn't begin what it must";
     case JD_TOO_LONG: return "a produced key or prefix passes 64 bytes";
     case JD_NOT_BELOW: return "left isn't below right, or the last new pivot below the end";
     case JD_NO_ROOM: return "a destination is too short";
@@ -99,7 +90,6 @@ static inline const char *jd_refusal_text(uint32_t refusal)
     case JD_NOT_MEETING: return "the tables don't meet: one's last pivot isn't the other's first";
     case JD_ENTRIES_UNSORTED: return "the keys of a bucket don't rise strictly";
     case JD_WRONG_INDEX: return "an index isn't the one that belongs to table and bucket";
-    case JD_WALK_TOO_LONG: return "the walk has had its eight steps";
     default: return "no refusal of this version of the library";
     }
 }
@@ -185,24 +175,6 @@ uint32_t jd_apply_pair(const uint8_t *pair, size_t pair_len,
 uint32_t jd_compose_pairs(const uint8_t *pair_a, size_t pair_a_len,
                           const uint8_t *pair_b, size_t pair_b_len,
                           uint8_t *dest_pair, size_t dest_pair_len, uint64_t *there);
-
-/* ---- Walks. */
-
-/* Writes the walk of a tag: the tag as its own current key, an absent pair, and no step. Answers 0,
- * the count of its steps. Refuses JD_MALFORMED, JD_NO_ROOM. */
-uint32_t jd_start_walk(const uint8_t *tag, size_t tag_len,
-                       uint8_t *dest_walk, size_t dest_walk_len, uint64_t *count);
-
-/* Writes the walk after one step more: the current key translated by the table, as
- * jd_translate_key does, and a pair that takes the tag to it; answers the new count. The walk that
- * is lent stays as it is. A count of JD_MAX_STEPS or more is refused before all else is looked at.
- * Refuses JD_WALK_TOO_LONG, JD_SHAPE, JD_MALFORMED, JD_UNSORTED, JD_EMPTY_PREFIX,
- * JD_OUT_OF_RANGE (the current key), JD_NOT_PREFIX (the walk's pair doesn't take its tag to its
- * current key), JD_TOO_LONG (the translated key), JD_NO_ROOM. */
-uint32_t jd_step_walk(const uint8_t *walk, size_t walk_len,
-                      const uint8_t *pivots, size_t pivots_len,
-                      const uint8_t *edges, size_t edges_len,
-                      uint8_t *dest_walk, size_t dest_walk_len, uint64_t *count);
 
 /* ---- Buckets. A bucket is 0 to JD_MAX_ENTRIES entries, in any order; keys may be equal. */
 

@@ -1,4 +1,6 @@
 // An answer at the boundary: a number, and a value behind a pointer.
+#![tactic(auto)]
+
 ghost use Rattle.std.specs.Prelude.{◌≡◌};
 ghost use Rattle.model.specs.calls.Refusals.{answer_number, compared_number, told, told_order, decided_answer};
 

@@ -1,4 +1,6 @@
 // Whether a bucket fits under another prefix. No public function has a `requires`.
+#![tactic(auto)]
+
 ghost use Rattle.std.specs.Prelude.{◌≡◌, not, ◌||◌};
 ghost use Rattle.model.specs.calls.Refusals.{yes_or_no};
 ghost use Rattle.model.specs.calls.BucketCalls.{bucket_long, bucket_full, will_fit_answer};

@@ -1,5 +1,7 @@
 // What a bucket keeps under another prefix: how many entries, and whether their keys fit; and the room they need.
 // No public function has a `requires`.
+#![tactic(auto)]
+
 mod limits;
 
 ghost use Rattle.std.specs.Prelude.{◌≡◌, length};

@@ -1,4 +1,6 @@
 // Buckets under another prefix; and by name whether one would be accepted. No public function has a `requires`.
+#![tactic(auto)]
+
 mod translate;
 mod write;
 

@@ -1,4 +1,6 @@
 // Scans over lent bytes by single ones: the byte at a place, and the run of FF. No public function has a `requires`.
+#![tactic(auto)]
+
 ghost use Rattle.std.specs.Prelude.{◌≡◌, ◌≤◌, length, get_or};
 ghost use Rattle.model.specs.ranges.RangePrefix.{lcpright};
 

@@ -1,4 +1,6 @@
 // The check of pivots whose prefix is to be changed, up to a given end. No public function has a `requires`.
+#![tactic(auto)]
+
 ghost use Rattle.std.specs.Prelude.{◌≡◌, true, ◌&&◌, ◌||◌, ◌/◌, ◌≤◌, leb, length};
 ghost use Rattle.model.specs.keys.Key.{max_len, too_long};
 ghost use Rattle.model.specs.records.Record.{record_size, elements};

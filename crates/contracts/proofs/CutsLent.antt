@@ -13,7 +13,7 @@ use Rattle.model.specs.cuts.Sides.{inside, Split, SplitEdges}
 use Rattle.model.specs.calls.Refusals.{outcome, first}
 use Rattle.model.specs.calls.TableCalls.{edge_slot_causes}
 use Rattle.model.specs.calls.CutCalls.{cut_causes}
-use Rattle.contracts.proofs.Lent.{go_on_lem, pivots_read_lem, edges_read_lem, edge_slot_lent}
+use Rattle.contracts.proofs.Lent.{go_on, pivots_read_lem, edges_read_lem, edge_slot_lent}
 
 module _ (pt : PivotTable) (et : EdgeTable) (w : WFPivots pt ≡ true) (m : length pt ≤ max_pivots) (x : WFEdges et pt ≡ true) (s : all short_edge et ≡ true) where
   pub cut_lent : (left : Bool) (k : Key) (dp de : List ℕ) → length k ≤ max_len → inside left pt k ≡ true → all short_edge (SplitEdges left et pt k) ≡ true
@@ -21,4 +21,4 @@ module _ (pt : PivotTable) (et : EdgeTable) (w : WFPivots pt ≡ true) (m : leng
       → first (cut_causes left (encode_all pt) (encode_edges et) k dp de) ≡ none
   cut_lent left k dp de l i f rp re =
       rw (pivots_read_lem pt w, edges_read_lem pt et w m x s)
-      (go_on_lem some none (edge_slot_causes (encode_all pt) (encode_edges et) k (inside left pt k)) _ (edge_slot_lent pt et w m x s k (inside left pt k) l i) ∙ (unfold outcome in rw (f, le-ltb _ _ rp, le-ltb _ _ re)))
+      (go_on some none (edge_slot_causes (encode_all pt) (encode_edges et) k (inside left pt k)) _ (edge_slot_lent pt et w m x s k (inside left pt k) l i) ∙ (unfold outcome in rw (f, le-ltb _ _ rp, le-ltb _ _ re)))

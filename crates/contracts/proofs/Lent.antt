@@ -27,8 +27,8 @@ pub accepted : {A : Type 0} (f : Refusal → A) (v : A) (cs : List Cause) → fi
 accepted f v cs h = sym (passed f v v cs h refl)
 
 -- where none of the first causes applies, the others decide
-pub go_on_lem : {A : Type 0} (f : Refusal → A) (v : A) (cs ds : List Cause) → first cs ≡ none → outcome f (cs ++ ds) v ≡ outcome f ds v
-go_on_lem f v cs ds h = sym (after f v (outcome f ds v) cs ds h refl)
+pub go_on : {A : Type 0} (f : Refusal → A) (v : A) (cs ds : List Cause) → first cs ≡ none → outcome f (cs ++ ds) v ≡ outcome f ds v
+go_on f v cs ds h = sym (after f v (outcome f ds v) cs ds h refl)
 
 -- room for a produced key of at most 64 bytes
 pub size_lent : (x : Key) (d : List ℕ) → length x ≤ max_len → length x ≤ length d → first (size_causes x d) ≡ none
@@ -64,7 +64,7 @@ module _ (pt : PivotTable) (w : WFPivots pt ≡ true) where
   -- with a key inside
   pub slot_lent : (k : Key) (inside : Bool) → length pt ≤ max_pivots → length k ≤ max_len → inside ≡ true → first (slot_causes (encode_all pt) k inside) ≡ none
   slot_lent k inside m s i =
-      go_on_lem some none (key_causes (encode_all pt) k) _ (pivots_lent false (too_long k) m refl (not_too_long k s)) ∙ (unfold outcome in rw i)
+      go_on some none (key_causes (encode_all pt) k) _ (pivots_lent false (too_long k) m refl (not_too_long k s)) ∙ (unfold outcome in rw i)
 
 -- pivots and edges as their records
 module _ (pt : PivotTable) (et : EdgeTable) (w : WFPivots pt ≡ true) (m : length pt ≤ max_pivots) (x : WFEdges et pt ≡ true) (s : all short_edge et ≡ true) where

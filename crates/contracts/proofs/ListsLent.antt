@@ -38,7 +38,7 @@ use Rattle.model.proofs.calls.IndexCauses.{entries_wf, entries_bucket, entries_r
 use Rattle.contracts.specs.Refuses.{RefusesAt, Refuses}
 use Rattle.contracts.specs.BucketLists.{TranslateBucketsWillFit, Inv, ILseq, InvLseq}
 use Rattle.contracts.proofs.Refusing.{refuses_at, refuses_unless, clause_refused, more_refused, call_refuses, too_many}
-use Rattle.contracts.proofs.Lent.{go_on_lem}
+use Rattle.contracts.proofs.Lent.{go_on}
 
 -- ---- a lent list
 
@@ -248,7 +248,7 @@ module _ (p l x : List ℕ) (old new : Key) (db dx : List ℕ) (blist : List Buc
   list_accepted g f a c =
       let n = new_list g in
       let s : all short_entry (new_bucket l old new) ≡ true = rw n (fits_together old new blist f) in
-      go_on_lem answers.Refused _ (given_causes (too_long old || too_long new) false p l x) _ g
+      go_on answers.Refused _ (given_causes (too_long old || too_long new) false p l x) _ g
       ∙ rw (s, n, le-ltb (length db) (length (together (TranslateBuckets blist old new)) * entry_size) a, le-ltb (length dx) (length (elements p) * place_size) c)
 
   -- where the bucket alone will fit, the list does, and there is room for its entries

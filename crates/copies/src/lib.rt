@@ -1,4 +1,6 @@
 // Bytes copied to the head of a destination, up to its end. No public function has a `requires`.
+#![tactic(auto)]
+
 mod blocks;
 mod bytes;
 

@@ -1,5 +1,7 @@
 // The common run of two keys counted in two ways, for the benchmark alone: no part of the library.
 // No public function has a `requires`.
+#![tactic(auto)]
+
 ghost use Rattle.std.specs.Prelude.{◌≡◌};
 ghost use Rattle.scan.specs.Count.{by_words, by_bytes};
 

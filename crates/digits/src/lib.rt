@@ -1,4 +1,6 @@
 // Bytes in hexadecimal and small numbers in decimal, as text. No public function has a `requires`.
+#![tactic(auto)]
+
 mod decimal;
 mod hex;
 

@@ -1,4 +1,6 @@
 // The entries of a bucket: their check, each at its place, and its key. No public function has a `requires`.
+#![tactic(auto)]
+
 mod check;
 mod entry;
 mod key;

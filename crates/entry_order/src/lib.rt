@@ -1,4 +1,6 @@
 // A bucket whose entries rise, beside pivots: the check of both, causes 1, 2, 3 and 14. No public function has a `requires`.
+#![tactic(auto)]
+
 ghost use Rattle.std.specs.Prelude.{◌≡◌, true, false, ◌+◌, ◌/◌, ◌<◌, length};
 ghost use Rattle.model.specs.keys.Order.{lt};
 ghost use Rattle.model.specs.records.Record.{record_size, element};

@@ -1,4 +1,6 @@
 // What a cut of a bucket and its index writes, where both destinations have room. No public function has a `requires`.
+#![tactic(auto)]
+
 ghost use Rattle.std.specs.Prelude.{◌≡◌, map, ◌/◌, ◌≤◌, length};
 ghost use Rattle.model.specs.buckets.Bucket.{entry_size};
 ghost use Rattle.model.specs.buckets.Index.{encode_index, places};

@@ -1,4 +1,6 @@
 // A bucket with its index: built, checked, and the entries of a slot. No public function has a `requires`.
+#![tactic(auto)]
+
 mod build;
 mod check;
 mod entry;

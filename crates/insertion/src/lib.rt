@@ -1,4 +1,6 @@
 // A key as a new pivot of a table, with its edges. No public function has a `requires`.
+#![tactic(auto)]
+
 ghost use Rattle.std.specs.Prelude.{◌≡◌, true, ◌*◌, length};
 ghost use Rattle.model.specs.records.Record.{record_size, encode_all, encode_edges};
 ghost use Rattle.model.specs.tables.Tables.{all, short_edge};

@@ -1,4 +1,6 @@
 // Two tables with edges put together, where one ends and the other begins. No public function has a `requires`.
+#![tactic(auto)]
+
 mod write;
 
 ghost use Rattle.std.specs.Prelude.{◌≡◌};

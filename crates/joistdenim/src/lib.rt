@@ -1,5 +1,7 @@
 // The boundary for C and Rust. Each function answers what the call below it does: 0 or the refusal's number,
 // and the value through its last parameter, which a refusal leaves as it was. No public function has a `requires`.
+#![tactic(auto)]
+
 mod of_buckets;
 mod of_cuts;
 mod of_index;

@@ -1,5 +1,7 @@
 // The key of a pivot record or of an entry: its length, and the part of the caller's slice that it fills.
 // No public function has a `requires`.
+#![tactic(auto)]
+
 ghost use Rattle.std.specs.Prelude.{◌≡◌};
 ghost use Rattle.model.specs.calls.KeyCalls.{pivot_key_answer, pivot_key_part, entry_key_answer, entry_key_part};
 

@@ -1,5 +1,7 @@
 // What an input holds: the pivot count in two bytes, high byte first, then pivots, then edges. No public function has a
 // `requires`.
+#![tactic(auto)]
+
 ghost use Rattle.std.specs.Prelude.{◌≡◌, ◌/◌, ◌<◌, length};
 ghost use Rattle.model.specs.records.Record.{record_size};
 ghost use Rattle.model.specs.calls.Refusals.{answer};

@@ -1,5 +1,7 @@
 // The lines of a table. Each text is written at the head of dest as far as there is room, and its length is answered.
 // No public function has a `requires`.
+#![tactic(auto)]
+
 ghost use Rattle.std.specs.Prelude.{◌≡◌, ◌++◌, ◌+◌, ◌*◌, ◌-◌, ◌≤◌, ◌<◌, length};
 ghost use Rattle.model.specs.inner.Written.{into};
 ghost use Rattle.list_fields.specs.Fields.{pivot_field, most_field};

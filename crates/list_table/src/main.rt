@@ -1,4 +1,6 @@
 // Reads a table from standard input, and writes its list to standard output.
+#![tactic(auto)]
+
 ghost use Rattle.std.specs.Prelude.{◌≡◌, ◌≤◌, length, take};
 ghost use Rattle.model.specs.list.ShelfList.{shelf_list};
 ghost use Rattle.list_table.specs.Input.{bytes_read};

@@ -47,7 +47,6 @@ number_small TooManyPivots n e = omega arith
 number_small NotMeeting n e = omega arith
 number_small EntriesUnsorted n e = omega arith
 number_small WrongIndex n e = omega arith
-number_small WalkTooLong n e = omega arith
 
 -- its first field
 abbrev refused_field : List ℕ

@@ -1,4 +1,6 @@
 // The list of a table, as text. No public function has a `requires`.
+#![tactic(auto)]
+
 mod table;
 
 pub use table::list_table;

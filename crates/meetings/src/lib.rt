@@ -1,4 +1,6 @@
 // Where two tables meet: the check before they are put together. No public function has a `requires`.
+#![tactic(auto)]
+
 ghost use Rattle.std.specs.Prelude.{◌≡◌, true, ◌/◌, length};
 ghost use Rattle.model.specs.records.Record.{record_size, elements};
 ghost use Rattle.model.specs.tables.Tables.{WFPivots};

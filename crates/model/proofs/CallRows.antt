@@ -6,7 +6,7 @@ use Prim.Native.Nat.{ℕ, ◌*◌}
 use lib.IntN.{ℤ, pos, negsuc}
 use lib.ListN.{length}
 use Rattle.model.specs.declared.Refusal.{Refusal}
-use Rattle.model.specs.declared.Refusal.TheVariants.{Shape, Malformed, Unsorted, EmptyPrefix, OutOfRange, NoSuchSlot, NotPrefix, TooLong, NotBelow, NoRoom, AlreadyPivot, TooManyPivots, NotMeeting, EntriesUnsorted, WrongIndex, WalkTooLong}
+use Rattle.model.specs.declared.Refusal.TheVariants.{Shape, Malformed, Unsorted, EmptyPrefix, OutOfRange, NoSuchSlot, NotPrefix, TooLong, NotBelow, NoRoom, AlreadyPivot, TooManyPivots, NotMeeting, EntriesUnsorted, WrongIndex}
 use Rattle.model.specs.declared.Answer.TheVariants.{Value, Refused}
 use Rattle.model.specs.declared.Compared.TheVariants as compared
 use Rattle.model.specs.declared.Decided.{Decided}
@@ -33,17 +33,17 @@ use Rattle.model.specs.Rows.{pivots_t, edges_t}
 
 -- ---- refusals
 
--- in the order of the table "Refusals", and then 11 to 16
+-- in the order of the table "Refusals", and then 11 to 15
 abbrev pub refusals : List Refusal
 refusals =
     Shape ∷ Malformed ∷ Unsorted ∷ EmptyPrefix ∷ OutOfRange ∷ NoSuchSlot ∷ NotPrefix ∷ TooLong ∷ NotBelow ∷ NoRoom ∷
-    AlreadyPivot ∷ TooManyPivots ∷ NotMeeting ∷ EntriesUnsorted ∷ WrongIndex ∷ WalkTooLong ∷ []
+    AlreadyPivot ∷ TooManyPivots ∷ NotMeeting ∷ EntriesUnsorted ∷ WrongIndex ∷ []
 
-abbrev pub one_to_sixteen : List ℕ
-one_to_sixteen = 1 ∷ 2 ∷ 3 ∷ 4 ∷ 5 ∷ 6 ∷ 7 ∷ 8 ∷ 9 ∷ 10 ∷ 11 ∷ 12 ∷ 13 ∷ 14 ∷ 15 ∷ 16 ∷ []
+abbrev pub one_to_fifteen : List ℕ
+one_to_fifteen = 1 ∷ 2 ∷ 3 ∷ 4 ∷ 5 ∷ 6 ∷ 7 ∷ 8 ∷ 9 ∷ 10 ∷ 11 ∷ 12 ∷ 13 ∷ 14 ∷ 15 ∷ []
 
 -- each is answered by its number, and an accepted call by 0
-pub numbers : (map (λ (r : Refusal). answer_number (Refused r)) refusals ≡ one_to_sixteen) × (map (λ (r : Refusal). compared_number (compared.Refused r)) refusals ≡ one_to_sixteen)
+pub numbers : (map (λ (r : Refusal). answer_number (Refused r)) refusals ≡ one_to_fifteen) × (map (λ (r : Refusal). compared_number (compared.Refused r)) refusals ≡ one_to_fifteen)
     × (answer_number (Value 7) ≡ 0) × (compared_number (compared.Order (pos 1)) ≡ 0)
 unfolding answer_number compared_number
 numbers = (refl, refl, refl, refl)

@@ -6,9 +6,9 @@ pub mod ranges
 pub mod tables
 pub mod cuts
 pub mod translation
-pub mod walks
 pub mod buckets
 pub mod list
 pub mod Rows
 pub mod CallRows
 pub mod IndexRows
+pub mod walks

@@ -12,7 +12,6 @@ pub mod PairCalls
 pub mod TranslationCalls
 pub mod RenamingCalls
 pub mod ParentChildCalls
-pub mod WalkCalls
 pub mod BucketsBySize
 pub mod BucketCalls
 pub mod BucketRoom

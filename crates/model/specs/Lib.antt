@@ -4,9 +4,9 @@ pub mod ranges
 pub mod tables
 pub mod cuts
 pub mod translation
-pub mod walks
 pub mod buckets
 pub mod calls
 pub mod list
 pub mod Rows
 pub mod inner
+pub mod walks

@@ -7,7 +7,6 @@ pub mod JoinCalls
 pub mod PairCalls
 pub mod TranslationCalls
 pub mod PairRecordCalls
-pub mod WalkCalls
 pub mod RenamingCalls
 pub mod ParentChildCalls
 pub mod BucketCalls

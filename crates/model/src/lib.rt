@@ -1,8 +1,9 @@
 // What every crate shares by name: the limits, the refusals, and the answers of the calls.
 // This crate has no function. Its definitions are in specs/, its laws in proofs/.
+#![tactic(auto)]
 
-// The limits of specs/keys/Key, records/Record, buckets/Bucket, buckets/Index, translation/PairRecord, walks/Walk,
-// walks/WalkRecord and tables/Tables, for use in code.
+// The limits of specs/keys/Key, records/Record, buckets/Bucket, buckets/Index, translation/PairRecord and tables/Tables,
+// for use in code.
 pub const MAX_LEN: usize = 64;
 
 pub const RECORD_SIZE: usize = 66;
@@ -18,10 +19,6 @@ pub const MAX_ENTRIES: usize = 512;
 pub const PLACE_SIZE: usize = 2;
 
 pub const PAIR_SIZE: usize = 133;
-
-pub const WALK_SIZE: usize = 266;
-
-pub const MAX_STEPS: u8 = 8;
 
 pub const MIN_PIVOTS: usize = 2;
 
@@ -45,7 +42,6 @@ pub enum Refusal {
     NotMeeting,
     EntriesUnsorted,
     WrongIndex,
-    WalkTooLong,
 }
 
 // What a call answers whose result is a length, a place or a count.

@@ -1,5 +1,7 @@
 // Pairs as records of 133 bytes: a flag, two length fields, two arrays of 64 bytes; read and written. No public function has
 // a `requires`.
+#![tactic(auto)]
+
 ghost use Rattle.std.specs.Prelude.{◌≡◌, ◌∷◌, [], ◌/◌, ◌%◌, ◌≤◌, length};
 ghost use Rattle.model.specs.keys.Key.{max_len};
 ghost use Rattle.model.specs.translation.PairRecord.{pair_size, flag, encode_state};

@@ -1,4 +1,6 @@
 // The calls on pairs as records of 133 bytes; and by name how one is read and written. No public function has a `requires`.
+#![tactic(auto)]
+
 ghost use Rattle.std.specs.Prelude.{◌≡◌};
 ghost use Rattle.model.specs.calls.PairRecordCalls.{reverse_pair_answer, reverse_pair_leaves, apply_pair_answer, apply_pair_leaves, compose_pairs_answer, compose_pairs_leaves};
 

@@ -1,4 +1,6 @@
 // The pair of a key's slot as a record. No public function has a `requires`.
+#![tactic(auto)]
+
 ghost use Rattle.std.specs.Prelude.{◌≡◌};
 ghost use Rattle.model.specs.calls.PairRecordCalls.{translate_pair_answer, translate_pair_leaves};
 

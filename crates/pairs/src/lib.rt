@@ -1,4 +1,6 @@
 // A prefix pair by value: reverse, apply and compose. No public function has a `requires`.
+#![tactic(auto)]
+
 mod compose;
 mod pad;
 

@@ -1,4 +1,6 @@
 // Whether a child's table holds what a parent's slot leads to. No public function has a `requires`.
+#![tactic(auto)]
+
 mod slot;
 
 ghost use Rattle.std.specs.Prelude.{◌≡◌, ◌/◌, length};

@@ -1,4 +1,6 @@
 // The check of lent pivots, causes 1 to 3. No public function has a `requires`.
+#![tactic(auto)]
+
 ghost use Rattle.std.specs.Prelude.{◌≡◌, true, false, ◌&&◌, ◌+◌, ◌/◌, ◌<◌, length};
 ghost use Rattle.model.specs.keys.Order.{lt};
 ghost use Rattle.model.specs.records.Record.{record_size, reading, element_reading, element};

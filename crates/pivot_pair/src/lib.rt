@@ -1,4 +1,6 @@
 // A range of keys under another prefix. No public function has a `requires`.
+#![tactic(auto)]
+
 mod bounds;
 
 ghost use Rattle.std.specs.Prelude.{◌≡◌, ◌||◌};

@@ -1,4 +1,6 @@
 // How many pivots of a checked table stand before a key. No public function has a `requires`.
+#![tactic(auto)]
+
 ghost use Rattle.std.specs.Prelude.{◌≡◌, true, false};
 ghost use Rattle.model.specs.keys.Key.{too_long};
 ghost use Rattle.model.specs.keys.Order.{key, passes, last_place};

@@ -1,4 +1,6 @@
 // A key with its prefix changed. No public function has a `requires`.
+#![tactic(auto)]
+
 ghost use Rattle.std.specs.Prelude.{◌≡◌, ◌+◌, ◌-◌, ◌≤◌, length};
 ghost use Rattle.model.specs.keys.Key.{IsPrefix, change_prefix};
 ghost use Rattle.model.specs.calls.Refusals.{answer};

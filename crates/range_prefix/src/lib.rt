@@ -1,4 +1,6 @@
 // The prefix of a range of keys. No public function has a `requires`.
+#![tactic(auto)]
+
 ghost use Rattle.std.specs.Prelude.{◌≡◌, not, ◌+◌, ◌≤◌, eqb, length};
 ghost use Rattle.model.specs.keys.Key.{is_nil};
 ghost use Rattle.model.specs.keys.Order.{key};

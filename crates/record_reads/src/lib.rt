@@ -1,4 +1,6 @@
 // What a record says.
+#![tactic(auto)]
+
 ghost use Rattle.std.specs.Prelude.{◌≡◌, false, ◌+◌, ◌≤◌, ◌<◌, eqb};
 ghost use Rattle.model.specs.keys.Key.{max_len};
 ghost use Rattle.model.specs.records.Record.{length_field, field_reading, key_length, reading, key_bytes, allowed, key_reading, element_reading, edge_reading, no_edge_mark, max_mark};

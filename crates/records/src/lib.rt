@@ -1,5 +1,7 @@
 // Records of 66 bytes: how they are written; and by name how they are read, and copying, of crates of their own.
 // No public function has a `requires`.
+#![tactic(auto)]
+
 mod joined;
 mod write;
 

@@ -1,4 +1,6 @@
 // The number of each refusal, and the earlier of two. No public function has a `requires`.
+#![tactic(auto)]
+
 ghost use Rattle.std.specs.Prelude.{◌≡◌};
 ghost use Rattle.model.specs.calls.Refusals.{number};
 ghost use Rattle.refusals.specs.Earlier.{earlier};
@@ -25,7 +27,6 @@ pub fn refusal_number(r: Refusal) -> u32
         Refusal::NotMeeting => 13,
         Refusal::EntriesUnsorted => 14,
         Refusal::WrongIndex => 15,
-        Refusal::WalkTooLong => 16,
     }
 }
 

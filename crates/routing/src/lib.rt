@@ -1,4 +1,6 @@
 // The slot of a key in a table. No public function has a `requires`.
+#![tactic(auto)]
+
 ghost use Rattle.std.specs.Prelude.{◌≡◌, true, false, not, ◌∷◌, []};
 ghost use Rattle.model.specs.declared.Refusal.TheVariants.{OutOfRange, AlreadyPivot, TooManyPivots};
 ghost use Rattle.model.specs.keys.Order.{key, passes, last_place};

@@ -1,4 +1,6 @@
 // Scans over lent bytes. Nothing is written, and no public function has a `requires`.
+#![tactic(auto)]
+
 mod words;
 
 ghost use Rattle.std.specs.Prelude.{◌≡◌, ◌≤◌, min, length, take, drop};

@@ -1,5 +1,7 @@
 // Calls the functions that no other program reaches, and prints what each gives, a line of hexadecimal, `-` where it is
 // empty: the four that hand back a part of what they are lent, and the pair by value applied to a key.
+#![tactic(auto)]
+
 ghost use Rattle.std.specs.Prelude.{◌≡◌, ◌*◌, length};
 ghost use Rattle.model.specs.records.Record.{record_size};
 ghost use Rattle.model.specs.buckets.Bucket.{entry_size};

@@ -1,4 +1,6 @@
 // The edge of a slot that is cut, for cuts and insertion. No public function has a `requires`.
+#![tactic(auto)]
+
 ghost use Rattle.std.specs.Prelude.{◌≡◌};
 ghost use Rattle.slot_edges.specs.Slot.{grown_answer, grown_leaves, slot_edge_answer, slot_edge_leaves};
 

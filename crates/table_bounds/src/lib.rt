@@ -1,4 +1,6 @@
 // Where a key stands in a table. No public function has a `requires`.
+#![tactic(auto)]
+
 ghost use Rattle.std.specs.Prelude.{◌≡◌, true, ◌||◌, ◌-◌, ◌/◌, eqb, leb, length};
 ghost use Rattle.model.specs.keys.Order.{key, lt};
 ghost use Rattle.model.specs.records.Record.{record_size, element, elements};

@@ -1,5 +1,7 @@
 // The check of a lent table, causes 1 to 4, for every call that is lent one; and by name that of pivots. No public function
 // has a `requires`.
+#![tactic(auto)]
+
 ghost use Rattle.std.specs.Prelude.{◌≡◌, ◌||◌, ◌+◌, ◌/◌, ◌<◌, length};
 ghost use Rattle.model.specs.records.Record.{record_size, element, edge_of, records};
 ghost use Rattle.model.specs.inner.Places.{record_at};

@@ -1,4 +1,6 @@
 // Questions about a table. No public function has a `requires`.
+#![tactic(auto)]
+
 ghost use Rattle.std.specs.Prelude.{◌≡◌, true, not, ◌||◌, ◌∷◌, [], ◌-◌, ◌/◌, ◌<◌, length};
 ghost use Rattle.model.specs.declared.Refusal.TheVariants.{NotBelow};
 ghost use Rattle.model.specs.keys.Key.{too_long};

@@ -1,4 +1,6 @@
 // A table written where both destinations have room. No function has a `requires`.
+#![tactic(auto)]
+
 ghost use Rattle.std.specs.Prelude.{◌≡◌, [], ◌∷◌, ◌++◌, ◌/◌, ltb, length};
 ghost use Rattle.model.specs.declared.Refusal.TheVariants.{NoRoom};
 ghost use Rattle.model.specs.records.Record.{record_size};

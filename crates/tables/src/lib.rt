@@ -1,5 +1,7 @@
 // The key at a place of a lent table, and the first table; questions about a table and where a key stands in it, of crates
 // of their own, are handed on. No public function has a `requires`.
+#![tactic(auto)]
+
 mod get;
 mod init;
 

@@ -1,4 +1,6 @@
 // The upper bound of a prefix. No public function has a `requires`.
+#![tactic(auto)]
+
 ghost use Rattle.std.specs.Prelude.{◌≡◌, ◌≤◌, ◌<◌, pos, length, get_or};
 ghost use Rattle.std.proofs.Math.IntN.{pred_ℤ};
 ghost use Rattle.model.specs.keys.Key.{max_len};

@@ -45,7 +45,6 @@ mod table;
 mod tables;
 mod text;
 mod translation;
-mod walks;
 
 pub use bucket::{Bucket, Entry, Number};
 pub use buckets::{translate_bucket, translate_bucket_will_fit};
@@ -73,7 +72,6 @@ pub use tables::{
 };
 pub use text::{from_hex, TextError};
 pub use translation::{translate, translate_key};
-pub use walks::{start_walk, step_walk};
 
 /// The longest key, in bytes.
 pub const MAX_LEN: usize = 64;
@@ -93,9 +91,5 @@ pub const MAX_ENTRIES: usize = 512;
 pub const PLACE_SIZE: usize = 2;
 /// The bytes of a pair: a flag, two lengths of two bytes, and two prefixes in 64 bytes each.
 pub const PAIR_SIZE: usize = pair::NEW_AT + MAX_LEN;
-/// The bytes of a walk: tag and current key in 66 bytes each, a pair, and the count of its steps.
-pub const WALK_SIZE: usize = 2 * RECORD_SIZE + PAIR_SIZE + 1;
-/// The most steps of a walk.
-pub const MAX_STEPS: usize = 8;
 /// The bytes of the longest list of a table.
 pub const MAX_LIST: usize = 32_715;

@@ -19,13 +19,13 @@ macro_rules! refusals {
 }
 
 refusals! {
-    Shape = 1: "a slice isn't the records, entries, pair or walk it should be",
-    Malformed = 2: "a malformed record, pair or walk, a wrong mark, or a key over 64 bytes",
+    Shape = 1: "a slice isn't the records, entries or pair it should be",
+    Malformed = 2: "a malformed record or pair, a wrong mark, or a key over 64 bytes",
     Unsorted = 3: "pivots don't rise strictly",
     EmptyPrefix = 4: "an edge where the range's prefix is empty",
     OutOfRange = 5: "a key is outside the table's range",
     NoSuchSlot = 6: "no such slot, or no key at that place",
-    NotPrefix = 7: "an old prefix doesn't begin what it must, or a walk's pair gives another key",
+    NotPrefix = 7: "an old prefix doesn't begin what it must",
     TooLong = 8: "a produced key or prefix passes 64 bytes",
     NotBelow = 9: "left isn't below right, or the last new pivot below the end",
     NoRoom = 10: "a destination is too short",
@@ -34,11 +34,10 @@ refusals! {
     NotMeeting = 13: "the tables don't meet: one's last pivot isn't the other's first",
     EntriesUnsorted = 14: "the keys of a bucket don't rise strictly",
     WrongIndex = 15: "an index isn't the one that belongs to table and bucket",
-    WalkTooLong = 16: "the walk has had its eight steps",
 }
 
 impl Refusal {
-    /// The number, 1 to 16.
+    /// The number, 1 to 15.
     pub fn number(self) -> u32 {
         self as u32
     }
@@ -75,7 +74,7 @@ mod tests {
     #[test]
     fn each_number_is_its_refusal() {
         assert_eq!(Refusal::check(0), Ok(()));
-        for number in 1..=16 {
+        for number in 1..=15 {
             assert_eq!(Refusal::check(number).unwrap_err().number(), number);
         }
     }

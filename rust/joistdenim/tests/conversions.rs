@@ -101,7 +101,7 @@ fn a_table_of_bytes_is_refused_as_the_list_program_refuses_it() {
 #[test]
 fn an_error_from_main_says_what_it_means() {
     let refusal = Refusal::NotPrefix;
-    let meaning = "refusal 7: an old prefix doesn't begin what it must, or a walk's pair gives another key";
+    let meaning = "refusal 7: an old prefix doesn't begin what it must";
     assert_eq!(format!("{refusal:?}"), meaning);
     let error = "4g".parse::<Key>().unwrap_err();
     assert_eq!(format!("{error:?}"), "'g' is no hexadecimal digit");

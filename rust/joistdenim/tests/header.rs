@@ -1,11 +1,11 @@
 //! include/joistdenim.h and this crate say the same: what refusals mean, and sizes.
 use joistdenim::{
-    Refusal, ENTRY_SIZE, MAX_ENTRIES, MAX_LEN, MAX_LIST, MAX_PIVOTS, MAX_STEPS, MIN_PIVOTS,
-    PAIR_SIZE, PLACE_SIZE, RECORD_SIZE, WALK_SIZE,
+    Refusal, ENTRY_SIZE, MAX_ENTRIES, MAX_LEN, MAX_LIST, MAX_PIVOTS, MIN_PIVOTS, PAIR_SIZE,
+    PLACE_SIZE, RECORD_SIZE,
 };
 use std::fs;
 
-const REFUSALS: [(&str, Refusal); 16] = [
+const REFUSALS: [(&str, Refusal); 15] = [
     ("JD_SHAPE", Refusal::Shape),
     ("JD_MALFORMED", Refusal::Malformed),
     ("JD_UNSORTED", Refusal::Unsorted),
@@ -21,20 +21,17 @@ const REFUSALS: [(&str, Refusal); 16] = [
     ("JD_NOT_MEETING", Refusal::NotMeeting),
     ("JD_ENTRIES_UNSORTED", Refusal::EntriesUnsorted),
     ("JD_WRONG_INDEX", Refusal::WrongIndex),
-    ("JD_WALK_TOO_LONG", Refusal::WalkTooLong),
 ];
 
-const SIZES: [(&str, usize); 11] = [
+const SIZES: [(&str, usize); 9] = [
     ("JD_MAX_LEN", MAX_LEN),
     ("JD_RECORD_SIZE", RECORD_SIZE),
     ("JD_ENTRY_SIZE", ENTRY_SIZE),
     ("JD_PAIR_SIZE", PAIR_SIZE),
-    ("JD_WALK_SIZE", WALK_SIZE),
     ("JD_PLACE_SIZE", PLACE_SIZE),
     ("JD_MIN_PIVOTS", MIN_PIVOTS),
     ("JD_MAX_PIVOTS", MAX_PIVOTS),
     ("JD_MAX_ENTRIES", MAX_ENTRIES),
-    ("JD_MAX_STEPS", MAX_STEPS),
     ("JD_MAX_LIST", MAX_LIST),
 ];
 

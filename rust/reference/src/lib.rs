@@ -4,7 +4,7 @@
 //!
 //! A call reads its bytes into `Element`, `Edge` and `Entry` values first, and a `?` for each
 //! cause stands in the call's order of causes: cause 1 of every argument, then cause 2 of every
-//! argument, and so on. The order is 16, 1, 2, 3, 4, 13, 14, 5, 11, 12, 15, 6, 7, 8, 9, 10.
+//! argument, and so on. The order is 1, 2, 3, 4, 13, 14, 5, 11, 12, 15, 6, 7, 8, 9, 10.
 #![forbid(unsafe_code)]
 
 mod buckets;

@@ -18,7 +18,6 @@ pub enum Refusal {
     NotMeeting = 13,
     EntriesUnsorted = 14,
     WrongIndex = 15,
-    WalkTooLong = 16,
 }
 
 impl Refusal {

@@ -23,7 +23,7 @@ use Rattle.model.proofs.calls.Refusals.{none_here, none_after}
 use Rattle.contracts.specs.Refuses.{RefusesAt, Refuses}
 use Rattle.contracts.specs.BoundedPivots.{PivotSize}
 use Rattle.contracts.proofs.Refusing.{refuses_at, too_many, more_refused, call_refuses, pivots_refused}
-use Rattle.contracts.proofs.Lent.{accepted, go_on_lem, pivots_read_lem, pivots_lent}
+use Rattle.contracts.proofs.Lent.{accepted, go_on, pivots_read_lem, pivots_lent}
 
 -- function method PivotSize(e: Element) : (n: uint64)
 -- of the record of a key, pivot_key answers it; of max it is 0
@@ -78,7 +78,7 @@ module _ (pt : PivotTable) (i : ℕ) (w : WFPivots pt ≡ true) (m : length pt �
   no_cause : first (get_key_causes (encode_all pt) i) ≡ none
   no_cause =
       rw (pivots_read_lem pt w)
-      (go_on_lem _ _ (pivot_causes false false (encode_all pt)) _ (pivots_lent pt w false false m refl refl) ∙ (unfold outcome in rw (lt-ltb i (length pt) l, h)))
+      (go_on _ _ (pivot_causes false false (encode_all pt)) _ (pivots_lent pt w false false m refl refl) ∙ (unfold outcome in rw (lt-ltb i (length pt) l, h)))
 
   -- ensures GetKey(pt, idx as int) == k
   -- the part handed back holds its bytes, and the call beside it answers its length

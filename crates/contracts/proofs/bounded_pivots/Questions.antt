@@ -27,7 +27,7 @@ use Rattle.contracts.specs.Refuses.{RefusesAt, Refuses}
 use Rattle.contracts.specs.BoundedPivots.{ElementIsKey, KeysToElements, BoundedKeySeq, BoundedSortedKeySeq}
 use Rattle.contracts.proofs.Tests.{same_tests}
 use Rattle.contracts.proofs.Refusing.{refuses_at, not_key_long, too_many, more_refused, call_refuses, pivots_refused}
-use Rattle.contracts.proofs.Lent.{accepted, go_on_lem, element_lent, pivots_read_lem, pivots_lent}
+use Rattle.contracts.proofs.Lent.{accepted, go_on, element_lent, pivots_read_lem, pivots_lent}
 
 -- ---- ContainsRange, of the pivots p, the left key l and the right record r
 
@@ -57,7 +57,7 @@ pub bounded_pivots_93 : (pt : PivotTable) (l : Key) (r : Element) → WFPivots p
 bounded_pivots_93 pt l r w m s t h =
     let e = element_lent r t in
     rw (pivots_read_lem pt w, e.stands)
-    (go_on_lem _ _ (pivot_causes (not_record (encode r)) (too_long l || not_element (encode r)) (encode_all pt)) _
+    (go_on _ _ (pivot_causes (not_record (encode r)) (too_long l || not_element (encode r)) (encode_all pt)) _
     (pivots_lent pt w _ _ m e.one (rw (not_too_long l s) e.right))
     ∙ (unfold outcome in rw h))
 

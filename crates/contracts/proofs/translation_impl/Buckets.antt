@@ -27,7 +27,7 @@ use Rattle.contracts.specs.Refuses.{RefusesAt, Refuses}
 use Rattle.contracts.specs.BucketLists.{TranslateBucketWillFit, WillFitInPkv, Inv}
 use Rattle.contracts.specs.Translation.{TranslateBucketSimple}
 use Rattle.contracts.proofs.Refusing.{refuses_at, Refused, clause_refused, more_refused, call_refuses}
-use Rattle.contracts.proofs.Lent.{accepted, go_on_lem}
+use Rattle.contracts.proofs.Lent.{accepted, go_on}
 use Rattle.contracts.proofs.ListsLent.{inv_is}
 
 -- an entry added at the end where a test holds
@@ -128,5 +128,5 @@ module _ (b : Bucket) (z : all sized_entry b ≡ true) (m : length b ≤ max_ent
   unfolding outcome needed_bytes
   translation_impl_393 d k room =
       let c = translate_bucket_causes (encode_bucket b) p q d in
-      let n : first c ≡ none = go_on_lem some none (rename_causes (encode_bucket b) p q) _ rename_lent ∙ rw (entries-encode_bucket b z, k, le-ltb (length d) (length (TranslateBucket b p q) * entry_size) room) in
+      let n : first c ≡ none = go_on some none (rename_causes (encode_bucket b) p q) _ rename_lent ∙ rw (entries-encode_bucket b z, k, le-ltb (length d) (length (TranslateBucket b p q) * entry_size) room) in
       (accepted _ _ c n ∙ rw (entries-encode_bucket b z), accepted _ _ c n ∙ rw (entries-encode_bucket b z))

@@ -19,7 +19,7 @@ use Rattle.model.proofs.calls.TableCalls.{either_fails, causes_shape, causes_wro
 use Rattle.model.proofs.tables.Routing.{wf_sorted}
 use Rattle.contracts.specs.Refuses.{RefusesAt, Refuses}
 use Rattle.contracts.proofs.Refusing.{refuses_at, too_many, clause_refused, more_refused, call_refuses, pivots_refused, Refused}
-use Rattle.contracts.proofs.Lent.{accepted, go_on_lem, pivots_read_lem, pivots_lent, edges_read_lem, table_lent}
+use Rattle.contracts.proofs.Lent.{accepted, go_on, pivots_read_lem, pivots_lent, edges_read_lem, table_lent}
 
 -- ---- lent any bytes
 
@@ -108,7 +108,7 @@ module _ (parent : PivotTable) (et : EdgeTable) (child : PivotTable) (slot : ℕ
   tables_lent : first (three_tables_causes p e c) ≡ none
   unfolding outcome
   tables_lent =
-      go_on_lem some none (pivots p e c slot) _
+      go_on some none (pivots p e c slot) _
       (pivots_lent parent w _ _ m
       (or_neither _ _ (causes_shape _ _ p parent_lent) child_count)
       (or_neither _ _ (causes_wrong _ _ p parent_lent) (not_holds _ (causes_read false false c child_lent))))
@@ -116,7 +116,7 @@ module _ (parent : PivotTable) (et : EdgeTable) (child : PivotTable) (slot : ℕ
 
   question_lent : first (parent_child_causes p e c slot) ≡ none
   unfolding outcome
-  question_lent = go_on_lem some none (three_tables_causes p e c) _ tables_lent ∙ rw (pivots_read_lem parent w, edges_read_lem parent et w m x s, lt-ltb slot (length et) i, l, r)
+  question_lent = go_on some none (three_tables_causes p e c) _ tables_lent ∙ rw (pivots_read_lem parent w, edges_read_lem parent et w m x s, lt-ltb slot (length et) i, l, r)
 
   -- ensures b == ParentKeysInChildRange(parentpivots, parentedges, childpivots, slot as int)
   pub translation_impl_540 : parent_child_answer (encode_all parent) (encode_edges et) (encode_all child) slot ≡ yes_or_no (ParentKeysInChildRange parent et child slot)

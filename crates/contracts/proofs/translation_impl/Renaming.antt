@@ -31,7 +31,7 @@ use Rattle.contracts.specs.Refuses.{RefusesAt, Refuses}
 use Rattle.contracts.specs.Translation.{TranslatePivotsFrom, TranslateEdgesFrom}
 use Rattle.contracts.proofs.Refusing.{refuses_at, too_many, more_refused, call_refuses, pivots_refused, table_pivots_refused}
 use Rattle.contracts.proofs.LongRefused.{new_pivots_refused}
-use Rattle.contracts.proofs.Lent.{accepted, go_on_lem, element_lent, pivots_read_lem, pivots_lent, edges_read_lem, table_lent}
+use Rattle.contracts.proofs.Lent.{accepted, go_on, element_lent, pivots_read_lem, pivots_lent, edges_read_lem, table_lent}
 
 -- ---- pivots
 
@@ -91,7 +91,7 @@ module _ (pt : PivotTable) (w : WFPivots pt ≡ true) (m : length pt ≤ max_piv
       let c = pivots_count pt p q end (omega (arith, wf_count pt w)) in
       let i : NumBuckets pt - 1 ≡ length pt - 2 = omega arith in
       let o = element_lent end e in
-      go_on_lem some none (pivot_causes (not_record (encode end)) (too_long p || too_long q || not_element (encode end)) (encode_all pt)) _
+      go_on some none (pivot_causes (not_record (encode end)) (too_long p || too_long q || not_element (encode end)) (encode_all pt)) _
       (pivots_lent pt w _ _ m o.one (rw (not_too_long p a, not_too_long q b, o.right)))
       ∙ rw (pivots_read_lem pt w, o.stands, begun_all pt p f, t, i, g, c, le-ltb _ _ room)
 
@@ -138,7 +138,7 @@ module _ (pt : PivotTable) (et : EdgeTable) (w : WFPivots pt ≡ true) (m : leng
   filled_lent : first (edges_causes (encode_all pt) (encode_edges et) d) ≡ none
   unfolding outcome
   filled_lent =
-      go_on_lem some none (table_causes false false (encode_all pt) (encode_edges et)) _ (table_lent pt et w m x s false refl)
+      go_on some none (table_causes false false (encode_all pt) (encode_edges et)) _ (table_lent pt et w m x s false refl)
       ∙ rw (pivots_read_lem pt w, edges_read_lem pt et w m x s, edges_count et pt (edges_say et pt x).count, le-ltb _ _ room)
 
   -- ensures et' == TranslateEdges(et, pt, 0)

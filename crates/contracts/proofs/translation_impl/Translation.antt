@@ -22,7 +22,7 @@ use Rattle.model.proofs.translation.PairState.{state_pair, state_wrong}
 use Rattle.model.proofs.calls.Refusals.{or_right, not_fails}
 use Rattle.contracts.specs.Refuses.{RefusesAt, Refuses}
 use Rattle.contracts.proofs.Refusing.{refuses_at, too_many, Refused, more_refused, call_refuses, table_pivots_refused}
-use Rattle.contracts.proofs.Lent.{size_lent, accepted, go_on_lem, pivots_read_lem, edges_read_lem, edge_slot_lent}
+use Rattle.contracts.proofs.Lent.{size_lent, accepted, go_on, pivots_read_lem, edges_read_lem, edge_slot_lent}
 
 -- ---- the key's pair, and the key translated: lent any bytes
 
@@ -96,7 +96,7 @@ module _ (pt : PivotTable) (et : EdgeTable) (w : WFPivots pt ≡ true) (m : leng
   translation_impl_170 d t r =
       let o = translate_causes (encode_all pt) (encode_edges et) k in
       let c = translate_key_causes (encode_all pt) (encode_edges et) k d in
-      let n : first c ≡ none = go_on_lem some none o _ translate_lent ∙ rw (pivots_read_lem pt w, edges_read_lem pt et w m x s) (size_lent (TranslateKey pt et k) d t r) in
+      let n : first c ≡ none = go_on some none o _ translate_lent ∙ rw (pivots_read_lem pt w, edges_read_lem pt et w m x s) (size_lent (TranslateKey pt et k) d t r) in
       (accepted _ _ c n ∙ rw (pivots_read_lem pt w, edges_read_lem pt et w m x s), accepted _ _ c n ∙ rw (pivots_read_lem pt w, edges_read_lem pt et w m x s))
 
 -- ---- composing

@@ -3,7 +3,7 @@ use mathlib.Core.Path.{◌≡◌, refl}
 use mathlib.Core.Bool.{Bool, true, false}
 use mathlib.Core.List.{List, [], ◌∷◌}
 use Prim.Native.Nat.{ℕ, ◌+◌}
-use Rattle.model.specs.declared.Refusal.TheVariants.{Shape, EmptyPrefix, NotMeeting, EntriesUnsorted, OutOfRange, AlreadyPivot, TooManyPivots, WrongIndex, NoSuchSlot, NotPrefix, TooLong, NotBelow, NoRoom, WalkTooLong}
+use Rattle.model.specs.declared.Refusal.TheVariants.{Shape, EmptyPrefix, NotMeeting, EntriesUnsorted, OutOfRange, AlreadyPivot, TooManyPivots, WrongIndex, NoSuchSlot, NotPrefix, TooLong, NotBelow, NoRoom}
 use Rattle.model.specs.calls.Refusals.{◌⇒◌, turn, paired, in_turn}
 use Rattle.model.specs.calls.KeyCalls.{compare_causes, pivot_key_causes, entry_key_causes, change_prefix_causes, pivot_lcp_causes, uncommon_prefix_causes}
 use Rattle.model.specs.calls.TableCalls.{pivot_causes, table_causes, contains_range_causes, get_key_causes, init_pivot_table_causes, slot_causes}
@@ -14,18 +14,16 @@ use Rattle.model.specs.translation.PairState.{PairState}
 use Rattle.model.specs.calls.PairCalls.{reverse_causes, apply_causes, compose_causes}
 use Rattle.model.specs.calls.TranslationCalls.{translate_causes, translate_key_causes}
 use Rattle.model.specs.calls.PairRecordCalls.{reverse_pair_causes, apply_pair_causes, compose_pairs_causes, translate_pair_causes}
-use Rattle.model.specs.walks.Walk.{WalkState}
-use Rattle.model.specs.calls.WalkCalls.{start_causes, step_causes_by, start_walk_causes, step_walk_causes}
 use Rattle.model.specs.calls.RenamingCalls.{pivot_pair_causes, pivots_causes, edges_causes}
 use Rattle.model.specs.calls.ParentChildCalls.{parent_child_causes}
 use Rattle.model.specs.calls.BucketCalls.{bucket_causes, translate_bucket_causes}
 use Rattle.model.specs.calls.IndexCalls.{entries_causes, given_causes, build_index_causes, slot_entries_causes, cut_index_causes, translate_index_causes}
 use Rattle.model.specs.list.ShelfList.{list_causes, list_table_causes}
 
--- "before all others", "after 4", "directly after 5", "directly after 11", "after 5", and the others as they were
-pub directly_after : (turn WalkTooLong + 1 ≡ turn Shape) × (turn EmptyPrefix + 1 ≡ turn NotMeeting) × (turn NotMeeting + 1 ≡ turn EntriesUnsorted) × (turn EntriesUnsorted + 1 ≡ turn OutOfRange) × (turn OutOfRange + 1 ≡ turn AlreadyPivot) × (turn AlreadyPivot + 1 ≡ turn TooManyPivots) × (turn TooManyPivots + 1 ≡ turn WrongIndex)
+-- "after 4", "directly after 5", "directly after 11", "after 5", and the others as they were
+pub directly_after : (turn EmptyPrefix + 1 ≡ turn NotMeeting) × (turn NotMeeting + 1 ≡ turn EntriesUnsorted) × (turn EntriesUnsorted + 1 ≡ turn OutOfRange) × (turn OutOfRange + 1 ≡ turn AlreadyPivot) × (turn AlreadyPivot + 1 ≡ turn TooManyPivots) × (turn TooManyPivots + 1 ≡ turn WrongIndex)
     × (turn WrongIndex + 1 ≡ turn NoSuchSlot) × (turn NoSuchSlot + 1 ≡ turn NotPrefix) × (turn NotPrefix + 1 ≡ turn TooLong) × (turn TooLong + 1 ≡ turn NotBelow) × (turn NotBelow + 1 ≡ turn NoRoom)
-directly_after = (refl, refl, refl, refl, refl, refl, refl, refl, refl, refl, refl, refl)
+directly_after = (refl, refl, refl, refl, refl, refl, refl, refl, refl, refl, refl)
 
 -- each cause is held to the one before it: NoRoom before TooLong is out of turn, though both come after Shape
 pub out_of_turn : (t u v : Bool) → (in_turn 0 ((t ⇒ Shape) ∷ (u ⇒ TooLong) ∷ (v ⇒ NoRoom) ∷ []) ≡ true) × (in_turn 0 ((t ⇒ Shape) ∷ (u ⇒ NoRoom) ∷ (v ⇒ TooLong) ∷ []) ≡ false)
@@ -63,12 +61,6 @@ module _ (a b c d e : List ℕ) where
       × (in_turn 0 (translate_pair_causes a b c d) ≡ true)
   unfolding pivot_causes table_causes
   pairs_in_turn = (refl, refl, refl, refl)
-
-  -- walks, by value and as records
-  pub walks_in_turn : (t u : Bool) (s : WalkState) → (in_turn 0 (start_causes a) ≡ true) × (in_turn 0 (step_causes_by t u s a b) ≡ true) × (in_turn 0 (start_walk_causes a b) ≡ true)
-      × (in_turn 0 (step_walk_causes a b c d) ≡ true)
-  unfolding pivot_causes table_causes
-  walks_in_turn t u s = (refl, refl, refl, refl)
 
   -- renamed ranges, tables and buckets, parent and child, the list
   pub others_in_turn : (i : ℕ) → (in_turn 0 (pivot_pair_causes a b c d e) ≡ true) × (in_turn 0 (pivots_causes a b c d e) ≡ true) × (in_turn 0 (edges_causes a b c) ≡ true)

@@ -47,7 +47,7 @@ edges_bytes (suc n) l zero q b e = edge_bytes (take record_size l) q (bytes_take
 edges_bytes (suc n) l (suc i) q b e = edges_bytes n (drop record_size l) i q (bytes_drop record_size l b) e
 
 -- an edge of lent edges is of bytes
-pub edge_at_bytes : (e : List ℕ) (i : ℕ) (q : Key) → Bytes e → edge_at (edges e) i ≡ edge q → Bytes q
+edge_at_bytes : (e : List ℕ) (i : ℕ) (q : Key) → Bytes e → edge_at (edges e) i ≡ edge q → Bytes q
 unfolding edges records
 edge_at_bytes e i q b h = edges_bytes (length e / record_size) e i q b h
 

@@ -8,7 +8,7 @@ use lib.Seq.{drop-append_seam}
 use Rattle.model.specs.keys.Key.{Key, Bytes, IsPrefix, change_prefix}
 use Rattle.model.specs.keys.Order.{key, lte, lt}
 use Rattle.model.proofs.keys.Key.{prefix_next, prefix_append, prefix_split, bytes_append, bytes_drop}
-use Rattle.model.proofs.keys.Order.{Lte, less, next, Lt, less<, next<, to-Lte, to-Lt, lte_key-same, lt_false}
+use Rattle.model.proofs.keys.Order.{Lte, Lt, first-Lte, first-Lt, rest-Lte, rest-Lt, to-Lte, to-Lt, lte_key-same, lt_false}
 
 module _ (p q k : Key) where
   -- the new prefix begins the changed key
@@ -48,10 +48,10 @@ change_lt p q a b h k = ap not (change_lte p q b a k h)
 shares : (q a b k : Key) → Lte (q ++ a) k → Lt k (q ++ b) → IsPrefix q k ≡ true
 unfolding IsPrefix
 shares [] a b k h j = refl
-shares (x ∷ q) a b (y ∷ k) (less h) (less< j) = absurd (omega arith)
-shares (x ∷ q) a b (y ∷ k) (less h) (next< j) = absurd (omega arith)
-shares (x ∷ q) a b (y ∷ k) (next h) (less< j) = absurd (omega arith)
-shares (x ∷ q) a b (y ∷ k) (next h) (next< j) = prefix_next x q k ∙ shares q a b k h j
+shares (x ∷ q) a b [] h j = elim h [ ]
+shares (x ∷ q) a b (y ∷ k) h j =
+    let e : x ≡ y = omega (arith, first-Lte h, first-Lt j) in
+    rw (← e) (prefix_next x q k ∙ shares q a b k (rest-Lte h e) (rest-Lt j (sym e)))
 
 -- a key between two that begin with q begins with q
 pub between_shares : (q a b k : Key) → lte (key (q ++ a)) (key k) ≡ true → lt (key k) (key (q ++ b)) ≡ true → IsPrefix q k ≡ true

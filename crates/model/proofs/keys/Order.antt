@@ -3,7 +3,7 @@ use mathlib.Core.Path.{◌≡◌, refl, sym, ap, ◌∙◌}
 use mathlib.Core.Logic.{◌⊎◌, inl, inr, ⊎_elim}
 use mathlib.Core.List.{[], ◌∷◌, ◌++◌}
 use mathlib.Core.Bool.{Bool, true, false, not, true≢false}
-use Prim.Native.Nat.{ℕ, ◌<◌}
+use Prim.Native.Nat.{ℕ, ◌<◌, ◌≤◌}
 use native.Mathlib.Nat.{lt_trans}
 use native.Mathlib.Omega.{arith}
 use lib.Dec.{ltb}
@@ -93,13 +93,32 @@ trans-Key (less h) (next k) = less h
 trans-Key (next h) (less k) = less k
 trans-Key (next h) (next k) = next (trans-Key h k)
 
+-- the first bytes of keys stand as the keys do, and where they are equal the rests do
+pub first-Lte : {x y : ℕ} {a b : Key} → Lte (x ∷ a) (y ∷ b) → x ≤ y
+first-Lte (less h) = omega arith
+first-Lte (next h) = omega arith
+
+pub first-Lt : {x y : ℕ} {a b : Key} → Lt (x ∷ a) (y ∷ b) → x ≤ y
+first-Lt (less< h) = omega arith
+first-Lt (next< h) = omega arith
+
+pub rest-Lte : {x y : ℕ} {a b : Key} → Lte (x ∷ a) (y ∷ b) → x ≡ y → Lte a b
+rest-Lte (less h) e = absurd (omega arith)
+rest-Lte (next h) e = h
+
+pub rest-Lt : {x y : ℕ} {a b : Key} → Lt (x ∷ a) (y ∷ b) → x ≡ y → Lt a b
+rest-Lt (less< h) e = absurd (omega arith)
+rest-Lt (next< h) e = h
+
 -- keys that are not above each other are one
-antisym-Key : {a b : Key} → Lte a b → Lte b a → a ≡ b
-antisym-Key start start = refl
-antisym-Key (less h) (less k) = absurd (omega arith)
-antisym-Key (less h) (next k) = absurd (omega arith)
-antisym-Key (next h) (less k) = absurd (omega arith)
-antisym-Key (next {x = x} h) (next k) = ap (◌∷◌ x) (antisym-Key h k)
+antisym-Key : (a b : Key) → Lte a b → Lte b a → a ≡ b
+antisym-Key [] [] h k = refl
+antisym-Key [] (y ∷ b) h k = elim k [ ]
+antisym-Key (x ∷ a) [] h k = elim h [ ]
+antisym-Key (x ∷ a) (y ∷ b) h k =
+    let e : x ≡ y = omega (arith, first-Lte h, first-Lte k) in
+    let t = antisym-Key a b (rest-Lte h e) (rest-Lte k (sym e)) in
+    cc
 
 -- no element is above itself
 pub lte_refl : (a : Element) → lte a a ≡ true
@@ -128,7 +147,7 @@ lte_trans max max c h k = k
 -- elements that are not above each other are one
 pub lte_antisym : (a b : Element) → lte a b ≡ true → lte b a ≡ true → a ≡ b
 unfolding lte
-lte_antisym (key a) (key b) h k = ap key (antisym-Key (to-Lte a b h) (to-Lte b a k))
+lte_antisym (key a) (key b) h k = ap key (antisym-Key a b (to-Lte a b h) (to-Lte b a k))
 lte_antisym (key a) max h k = absurd (true≢false (sym k))
 lte_antisym max (key b) h k = absurd (true≢false (sym h))
 lte_antisym max max h k = refl

@@ -2,7 +2,7 @@
 use Rattle.std.specs.Prelude.{Bool, true, false, cond, ◌&&◌, List, [], ◌∷◌, ◌++◌, ℕ, leb, ℤ, length, drop}
 use Rattle.std.proofs.Math.Option.{Option, none, some}
 use Rattle.model.specs.declared.Refusal.{Refusal}
-use Rattle.model.specs.declared.Refusal.TheVariants.{Shape, Malformed, Unsorted, EmptyPrefix, OutOfRange, NoSuchSlot, NotPrefix, TooLong, NotBelow, NoRoom, AlreadyPivot, TooManyPivots, NotMeeting, EntriesUnsorted, WrongIndex, WalkTooLong}
+use Rattle.model.specs.declared.Refusal.TheVariants.{Shape, Malformed, Unsorted, EmptyPrefix, OutOfRange, NoSuchSlot, NotPrefix, TooLong, NotBelow, NoRoom, AlreadyPivot, TooManyPivots, NotMeeting, EntriesUnsorted, WrongIndex}
 use Rattle.model.specs.declared.Answer.{Answer}
 use Rattle.model.specs.declared.Answer.TheVariants as answers
 use Rattle.model.specs.declared.Compared.{Compared}
@@ -13,7 +13,7 @@ use Rattle.model.specs.declared.Routed.{Routed}
 use Rattle.model.specs.declared.Routed.TheVariants as routed
 
 infix 5 ◌⇒◌
--- the numbers of the table "Refusals", and 11 to 16: "the key is already a pivot", "the table would pass 64 pivots", "the meeting pivots differ or are max", "entries don't rise strictly", "a given index isn't the one that belongs to table and bucket", "a step of a walk whose count is eight or more"
+-- the numbers of the table "Refusals", and 11 to 15: "the key is already a pivot", "the table would pass 64 pivots", "the meeting pivots differ or are max", "entries don't rise strictly", "a given index isn't the one that belongs to table and bucket"
 abbrev pub number : Refusal → ℕ
 number Shape = 1
 number Malformed = 2
@@ -30,11 +30,9 @@ number TooManyPivots = 12
 number NotMeeting = 13
 number EntriesUnsorted = 14
 number WrongIndex = 15
-number WalkTooLong = 16
 
--- the order of all causes: 16 "before all others", "directly after 5" comes 11, "directly after 11" comes 12, "after 4" 13 and 14, "after 5" 15
+-- the order of all causes: "directly after 5" comes 11, "directly after 11" comes 12, "after 4" 13 and 14, "after 5" 15
 abbrev pub turn : Refusal → ℕ
-turn WalkTooLong = 0
 turn Shape = 1
 turn Malformed = 2
 turn Unsorted = 3

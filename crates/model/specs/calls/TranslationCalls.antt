@@ -1,24 +1,19 @@
 -- The translation of a key in a table: for each call its causes in order, its answer, and what it leaves in its destination.
-use Rattle.std.specs.Prelude.{Bool, false, not, List, [], ◌∷◌, ◌++◌, ℕ, length}
-use Rattle.model.specs.declared.Refusal.TheVariants.{OutOfRange}
+use Rattle.std.specs.Prelude.{List, ◌++◌, ℕ, length}
 use Rattle.model.specs.declared.Answer.{Answer}
-use Rattle.model.specs.keys.Key.{Key, too_long}
+use Rattle.model.specs.keys.Key.{Key}
 use Rattle.model.specs.records.Record.{elements, edges}
 use Rattle.model.specs.tables.Tables.{BoundedKey}
 use Rattle.model.specs.translation.PairState.{PairState}
 use Rattle.model.specs.translation.Translation.{Translate, TranslateKey}
-use Rattle.model.specs.calls.Refusals.{Cause, ◌⇒◌, answer, leaves}
+use Rattle.model.specs.calls.Refusals.{Cause, answer, leaves}
 use Rattle.model.specs.calls.KeyCalls.{size_causes}
-use Rattle.model.specs.calls.TableCalls.{table_causes}
+use Rattle.model.specs.calls.TableCalls.{edge_slot_causes}
 use Rattle.model.specs.calls.PairCalls.{pair_answer, pair_beside}
-
--- a table and a key in it; whether what comes with them has cause 1 or 2 is told, as to `tableCauses`
-abbrev pub translate_causes_by : Bool → Bool → List ℕ → List ℕ → Key → List Cause
-translate_causes_by shape wrong p e k = table_causes shape wrong p e ++ ((not (BoundedKey (elements p) k) ⇒ OutOfRange) ∷ [])
 
 -- Translate: the pair of the key's slot
 abbrev pub translate_causes : List ℕ → List ℕ → Key → List Cause
-translate_causes p e k = translate_causes_by false (too_long k) p e k
+translate_causes p e k = edge_slot_causes p e k (BoundedKey (elements p) k)
 
 abbrev pub translate_answer : List ℕ → List ℕ → Key → Answer
 translate_answer p e k = pair_answer (translate_causes p e k) (Translate (elements p) (edges e) k)
