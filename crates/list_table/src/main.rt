@@ -15,7 +15,7 @@ const INPUT_SIZE: usize = 2 + (MAX_PIVOTS + (MAX_PIVOTS - 1)) * RECORD_SIZE + 1;
 const TEXT_SIZE: usize = 32715;
 
 // What was read: so many bytes, or a read failed.
-#[derive(Drop)]
+#[derive(Clone, Copy)]
 enum Input {
     Bytes(usize),
     Failed,

@@ -25,7 +25,7 @@ pub const MIN_PIVOTS: usize = 2;
 pub const MAX_PIVOTS: usize = 64;
 
 // Why a call refuses. `number` in specs/calls/Refusals.antt gives each its number.
-#[derive(Drop)]
+#[derive(Clone, Copy)]
 pub enum Refusal {
     Shape,
     Malformed,
@@ -45,21 +45,21 @@ pub enum Refusal {
 }
 
 // What a call answers whose result is a length, a place or a count.
-#[derive(Drop)]
+#[derive(Clone, Copy)]
 pub enum Answer {
     Value(usize),
     Refused(Refusal),
 }
 
 // What compare answers: -1, 0 or 1.
-#[derive(Drop)]
+#[derive(Clone, Copy)]
 pub enum Compared {
     Order(i64),
     Refused(Refusal),
 }
 
 // What a question answers.
-#[derive(Drop)]
+#[derive(Clone, Copy)]
 pub enum Decided {
     Yes,
     No,
@@ -67,21 +67,21 @@ pub enum Decided {
 }
 
 // What routing answers: the slot.
-#[derive(Drop)]
+#[derive(Clone, Copy)]
 pub enum Routed {
     Slot(usize),
     Refused(Refusal),
 }
 
 // What the edge of a slot is: a prefix of so many bytes, or absent.
-#[derive(Drop)]
+#[derive(Clone, Copy)]
 pub enum EdgeKind {
     Prefix(usize),
     Absent,
 }
 
 // The four ways in which a record is read; a key comes with its length.
-#[derive(Drop)]
+#[derive(Clone, Copy)]
 pub enum Reading {
     Key(usize),
     Malformed,

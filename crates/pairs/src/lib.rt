@@ -18,7 +18,7 @@ use pad::cleared;
 pub use pad::padded;
 
 // A pair that is there, or an absent one: a flag, two lengths, and the old and the new prefix at the heads of two arrays.
-#[derive(Drop)]
+#[derive(Clone, Copy)]
 pub struct PrefixSet {
     pub there: bool,
     pub oldlen: usize,
@@ -28,7 +28,7 @@ pub struct PrefixSet {
 }
 
 // A pair and the answer beside it: 1 where the pair is there, 0 where it is absent. Beside a refusal it is absent.
-#[derive(Drop)]
+#[derive(Clone, Copy)]
 pub struct Paired {
     pub answer: Answer,
     pub pair: PrefixSet,

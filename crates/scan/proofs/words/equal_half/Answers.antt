@@ -6,4 +6,4 @@ pub returns-clause-b_value : goal.returns-clause-b_value
 returns-clause-b_value c =
     let start = c.args in
     let same = word_agrees 4 start.a.now start.b.now start.i _ _ _ c.half_at.ensures.0 c.half_at-2.ensures.0 c.if-half_at.false c.if-n-i-lt4.false in
-    (search rules, same (search rules) (search rules) (search rules) (search rules))
+    same (search rules) (search rules) (search rules) (search rules)
