@@ -47,7 +47,7 @@ pub(crate) fn big_at(s: &[u8], at: usize) -> u64
 pub(crate) fn equal_words(a: &[u8], b: &[u8], n: usize) -> usize
     requires { (n ≤ length a.now) × (n ≤ length b.now) }
     ensures upper_bound { result ≤ n }
-    ensures b_value { result + length (common_run (drop result a.now) (drop result b.now)) ≡ length (common_run a.now b.now) }
+    ensures agreed { result + length (common_run (drop result a.now) (drop result b.now)) ≡ length (common_run a.now b.now) }
 {
     let mut i = 0;
     while 8 <= n - i {
@@ -63,7 +63,7 @@ pub(crate) fn equal_words(a: &[u8], b: &[u8], n: usize) -> usize
 pub(crate) fn equal_half(a: &[u8], b: &[u8], n: usize, i: usize) -> usize
     requires { (n ≤ length a.now) × (n ≤ length b.now) × (i ≤ n) }
     ensures upper_bound { result ≤ n }
-    ensures b_value { result + length (common_run (drop result a.now) (drop result b.now)) ≡ i + length (common_run (drop i a.now) (drop i b.now)) }
+    ensures agreed { result + length (common_run (drop result a.now) (drop result b.now)) ≡ i + length (common_run (drop i a.now) (drop i b.now)) }
 {
     if n - i < 4 {
         return i;
