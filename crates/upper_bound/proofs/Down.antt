@@ -5,23 +5,22 @@ use Prim.Native.Nat.{ℕ, zero, suc, ◌≤◌, ◌<◌}
 use native.Mathlib.Omega.{arith}
 use borrow.Author.Tests.{eq-eqb, ne_eqb}
 use lib.Dec.{T, lit<, leb-zero}
-use lib.IntN.{pos, pred_ℤ, nat_abs, ◌+ℤ◌, ◌-ℤ◌, -ℤ_one, -ℤ-+ℤ_cancel}
+use lib.IntN.{ℤ, pos, pred_ℤ, nat_abs, ◌+ℤ◌, ◌-ℤ◌, -ℤ_one, -ℤ-+ℤ_cancel}
 use lib.Signed.{le_z, non_neg}
 use mir.Syntax.{w64}
-use mir.Val.{Fits, SFits, to_z, of_z}
-use mir.Facts.{to_z-of_z, to_z_pos}
+use mir.Val.{Fits, SFits}
 use lib.ListN.{length, get_or}
 use Rattle.model.specs.keys.Key.{Key}
 use Rattle.upper_bound.specs.Walk.{up_to_other}
 
--- the index with the bits i is that of the last of n bytes, and those after them are all FF
-pub record Last (p : Key) (i n : ℕ) : Type 0 where
+-- i is the index of the last of n bytes, and those after them are all FF
+pub record Last (p : Key) (i : ℤ) (n : ℕ) : Type 0 where
   pub within : n ≤ length p
-  pub here : to_z w64 i ≡ pred_ℤ (pos n)
+  pub here : i ≡ pred_ℤ (pos n)
   pub same : up_to_other p n ≡ up_to_other p (length p)
 
 -- the loop's invariant
-pub record Down (p : Key) (i : ℕ) : Type 0 where
+pub record Down (p : Key) (i : ℤ) : Type 0 where
   pub left : ℕ
   pub last : Last p i left
 
@@ -31,31 +30,28 @@ below_fits zero h = record { sfits = lit< tt }
 below_fits (suc n) h = record { sfits = omega arith }
 
 module _ (p : Key) (small : length p ≤ 64) where
-  down_to : (n : ℕ) → n ≤ length p → up_to_other p n ≡ up_to_other p (length p) → Down p (of_z w64 (pred_ℤ (pos n)))
-  down_to n h e = record { left = n; last = record { within = h; here = to_z-of_z (below_fits n (omega arith)); same = e } }
-
-  count_is : to_z w64 (length p) ≡ pos (length p)
-  count_is = to_z_pos w64 (omega arith)
+  down_to : (n : ℕ) → n ≤ length p → up_to_other p n ≡ up_to_other p (length p) → Down p (pred_ℤ (pos n))
+  down_to n h e = record { left = n; last = record { within = h; here = refl; same = e } }
 
   pub count_fits : SFits w64 (pos (length p))
   count_fits = record { sfits = omega arith }
 
-  pub start_fits : SFits w64 (to_z w64 (length p) -ℤ pos 1)
-  start_fits = rw (count_is, -ℤ_one) (below_fits (length p) small)
+  pub start_fits : SFits w64 (pos (length p) -ℤ pos 1)
+  start_fits = rw -ℤ_one (below_fits (length p) small)
 
-  pub down_start : Down p (of_z w64 (to_z w64 (length p) -ℤ pos 1))
-  down_start = rw (count_is, -ℤ_one) (down_to (length p) (omega arith) refl)
+  pub down_start : Down p (pos (length p) -ℤ pos 1)
+  down_start = rw -ℤ_one (down_to (length p) (omega arith) refl)
 
-  module _ (i : ℕ) (d : Down p i) where
-    pub down_end : le_z (pos 0) (to_z w64 i) ≡ false → to_z w64 i ≡ pred_ℤ (pos (up_to_other p (length p)))
+  module _ (i : ℤ) (d : Down p i) where
+    pub down_end : le_z (pos 0) i ≡ false → i ≡ pred_ℤ (pos (up_to_other p (length p)))
     unfolding up_to_other
     down_end t = go d.left d.last
       where
-        go : (n : ℕ) → Last p i n → to_z w64 i ≡ pred_ℤ (pos (up_to_other p (length p)))
+        go : (n : ℕ) → Last p i n → i ≡ pred_ℤ (pos (up_to_other p (length p)))
         go zero l = rw (l.here, ← l.same)
         go (suc n) l = absurd (true≢false (sym (leb-zero n) ∙ (rw l.here at t)))
 
-    module _ (t : le_z (pos 0) (to_z w64 i) ≡ true) where
+    module _ (t : le_z (pos 0) i ≡ true) where
       at : (j : ℕ) × Last p i (suc j)
       at = go d.left d.last
         where
@@ -63,30 +59,30 @@ module _ (p : Key) (small : length p ≤ 64) where
           go zero l = absurd (false≢true (rw l.here at t))
           go (suc n) l = (n, l)
 
-      is : to_z w64 i ≡ pos at.0
+      is : i ≡ pos at.0
       is = at.1.here
 
-      pub index_sign : T (non_neg (to_z w64 i))
+      pub index_sign : T (non_neg i)
       index_sign = rw is tt
 
-      pub index_inside : nat_abs (to_z w64 i) < length p
+      pub index_inside : nat_abs i < length p
       index_inside = rw is at.1.within
 
-      pub index_fits : Fits w64 (nat_abs (to_z w64 i))
+      pub index_fits : Fits w64 (nat_abs i)
       index_fits = record { fits = omega (arith, index_inside) }
 
-      pub next_fits : SFits w64 (to_z w64 i -ℤ pos 1)
+      pub next_fits : SFits w64 (i -ℤ pos 1)
       next_fits = let l = at.1.within in rw (is, -ℤ_one) (below_fits at.0 (omega arith))
 
-      pub next_less : nat_abs (to_z w64 (of_z w64 (to_z w64 i -ℤ pos 1)) +ℤ pos 1) < nat_abs (to_z w64 i +ℤ pos 1)
-      next_less = rw (to_z-of_z next_fits, is, -ℤ-+ℤ_cancel) (omega arith)
+      pub next_less : nat_abs ((i -ℤ pos 1) +ℤ pos 1) < nat_abs (i +ℤ pos 1)
+      next_less = rw (is, -ℤ-+ℤ_cancel) (omega arith)
 
       -- a byte that isn't FF ends the walk, and FF is passed
-      pub down_found : (get_or p (nat_abs (to_z w64 i)) 0 ≡ 255 → ⊥) → to_z w64 i ≡ pred_ℤ (pos (up_to_other p (length p)))
+      pub down_found : (get_or p (nat_abs i) 0 ≡ 255 → ⊥) → i ≡ pred_ℤ (pos (up_to_other p (length p)))
       unfolding up_to_other
       down_found h = rw (is, ← at.1.same, ne_eqb (get_or p at.0 0) 255 (rw is at h))
 
-      pub down_turn : get_or p (nat_abs (to_z w64 i)) 0 ≡ 255 → Down p (of_z w64 (to_z w64 i -ℤ pos 1))
+      pub down_turn : get_or p (nat_abs i) 0 ≡ 255 → Down p (i -ℤ pos 1)
       unfolding up_to_other
       down_turn h =
           let l = at.1 in
