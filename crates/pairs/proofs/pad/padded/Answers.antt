@@ -1,0 +1,13 @@
+use borrow.Author.Rules.{rules}
+use Rattle.pairs.proofs.Padding.{partly_start, partly_turn, partly_end}
+use Prim.Native.Nat.{◌-◌}
+use Rattle.pairs.proofs.pad.padded.Goals as goal
+
+pub loop-i-init : goal.loop-i-init
+loop-i-init c = (search rules, search rules, search partly_start)
+
+pub loop-i-preserved : goal.loop-i-preserved
+loop-i-preserved c = (search rules, search rules, search partly_turn)
+
+pub returns : goal.returns
+returns c = search partly_end
