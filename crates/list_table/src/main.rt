@@ -5,8 +5,8 @@ ghost use Rattle.std.specs.Prelude.{◌≡◌, ◌≤◌, length, take};
 ghost use Rattle.model.specs.list.ShelfList.{shelf_list};
 ghost use Rattle.list_table.specs.Input.{bytes_read};
 
-use libc::{STDERR_FILENO, STDIN_FILENO, STDOUT_FILENO};
 use model::{Answer, MAX_PIVOTS, RECORD_SIZE};
+use std::io::{self, Read, Write};
 
 // One byte more than the largest table has, by which a longer input shows.
 const INPUT_SIZE: usize = 2 + (MAX_PIVOTS + (MAX_PIVOTS - 1)) * RECORD_SIZE + 1;
@@ -21,17 +21,15 @@ enum Input {
     Failed,
 }
 
-// Reads standard input until buf is full or the input ends. A read that a signal interrupts counts as one that failed.
-fn read_input(buf: &mut [u8]) -> Input
+// Reads until buf is full or the input ends. A read that a signal interrupts counts as one that failed.
+fn read_input<R: Read>(from: &mut R, buf: &mut [u8]) -> Input
     ensures { bytes_read result ≤ length buf.new }
 {
     let mut done = 0;
     while done < buf.len() {
-        let got = libc::read(STDIN_FILENO, &mut buf[done..]);
-        if got < 0 {
+        let Ok(n) = from.read(&mut buf[done..]) else {
             return Input::Failed;
-        }
-        let n = io::count(got, &buf[done..]);
+        };
         if n == 0 {
             return Input::Bytes(done);
         }
@@ -54,22 +52,20 @@ fn list_read(input: &[u8], text: &mut [u8]) -> usize
     n
 }
 
-fn main() {
+fn main(rt: HostRuntime) -> io::Result<()> {
     let mut input = [0u8; INPUT_SIZE];
     let mut text = [0u8; TEXT_SIZE];
-    let read = read_input(&mut input);
+    let read = read_input(&mut rt.stdin(), &mut input);
     let Input::Bytes(n) = read else {
-        io::write_all(
-            STDERR_FILENO,
-            b"list_table: standard input could not be read\n",
-        );
-        return;
+        return rt
+            .stderr()
+            .write_all(b"list_table: standard input could not be read\n");
     };
     let m = list_read(&input[..n], &mut text);
-    if !io::write_all(STDOUT_FILENO, &text[..m]) {
-        io::write_all(
-            STDERR_FILENO,
-            b"list_table: the list could not be written\n",
-        );
+    if rt.stdout().write_all(&text[..m]).is_err() {
+        return rt
+            .stderr()
+            .write_all(b"list_table: the list could not be written\n");
     }
+    Ok(())
 }

@@ -1,0 +1,16 @@
+use Rattle.model.proofs.calls.Refusals.{handing_on}
+use Rattle.model.proofs.calls.TableCalls.{checked_wf}
+use Rattle.table_questions.proofs.Ends.{said}
+use borrow.Author.Rules.{rules}
+use Rattle.table_bounds.proofs.pivot_insertable.Goals as goal
+
+ruleset own = (rules, handing_on, checked_wf, said)
+
+pub fits_at-requires : goal.fits_at-requires
+fits_at-requires c = search own
+
+pub returns-in-Value : goal.returns-in-Value
+returns-in-Value c = search own
+
+pub returns-in-Refused : goal.returns-in-Refused
+returns-in-Refused c = search own
