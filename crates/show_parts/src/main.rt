@@ -6,37 +6,31 @@ ghost use Rattle.std.specs.Prelude.{◌≡◌, ◌*◌, length};
 ghost use Rattle.model.specs.records.Record.{record_size};
 ghost use Rattle.model.specs.buckets.Bucket.{entry_size};
 
-use libc::STDOUT_FILENO;
 use model::{Answer, ENTRY_SIZE, MAX_LEN, PLACE_SIZE, RECORD_SIZE};
 use pairs::PrefixSet;
+use std::io;
 
-fn wide(x: u8) -> u64 {
-    x as u64
-}
-
-fn print_part(part: &[u8]) {
-    if part.len() == 0 {
-        io::write_all(STDOUT_FILENO, b"-");
+fn print_part(rt: &impl Print, part: &[u8]) -> io::Result<()> {
+    if part.is_empty() {
+        print!(rt; "-")?;
     }
-    let mut i = 0;
-    while i < part.len() {
-        io::print_hex(STDOUT_FILENO, wide(part[i]), 2);
-        i += 1;
+    for byte in part {
+        print!(rt; "{byte:02x}")?;
     }
-    io::write_all(STDOUT_FILENO, b"\n");
+    println!(rt;)
 }
 
 // The part of a pivot record.
-fn show_pivot(field: u16, k: &[u8]) {
+fn show_pivot(rt: &impl Print, field: u16, k: &[u8]) -> io::Result<()> {
     let rec = records::record_of(field, k);
-    print_part(keys::pivot_key_part(&rec));
+    print_part(rt, keys::pivot_key_part(&rec))
 }
 
 // The part of an entry with the same record, and the number 0.
-fn show_entry(field: u16, k: &[u8]) {
+fn show_entry(rt: &impl Print, field: u16, k: &[u8]) -> io::Result<()> {
     let mut entry = [0u8; ENTRY_SIZE];
     records::put_record(field, k, &mut entry);
-    print_part(keys::entry_key_part(&entry));
+    print_part(rt, keys::entry_key_part(&entry))
 }
 
 // Three pivots, one after the other.
@@ -49,10 +43,16 @@ fn put_pivots(a: [u8; RECORD_SIZE], b: [u8; RECORD_SIZE], c: [u8; RECORD_SIZE], 
 }
 
 // The part of three pivots at a place.
-fn show_place(a: [u8; RECORD_SIZE], b: [u8; RECORD_SIZE], c: [u8; RECORD_SIZE], place: usize) {
+fn show_place(
+    rt: &impl Print,
+    a: [u8; RECORD_SIZE],
+    b: [u8; RECORD_SIZE],
+    c: [u8; RECORD_SIZE],
+    place: usize,
+) -> io::Result<()> {
     let mut pivots = [0u8; 3 * RECORD_SIZE];
     put_pivots(a, b, c, &mut pivots);
-    print_part(tables::get_key_part(&pivots, place));
+    print_part(rt, tables::get_key_part(&pivots, place))
 }
 
 // Two entries, one after the other, with the number 0.
@@ -64,7 +64,7 @@ fn put_entries(a: &[u8], b: &[u8], dest: &mut [u8])
 }
 
 // The part of a bucket with two entries that a slot of three pivots has, by the index that is built.
-fn show_slot(a: &[u8], b: &[u8], slot: usize) {
+fn show_slot(rt: &impl Print, a: &[u8], b: &[u8], slot: usize) -> io::Result<()> {
     let mut pivots = [0u8; 3 * RECORD_SIZE];
     let mut bucket = [0u8; 2 * ENTRY_SIZE];
     let mut index = [0u8; 3 * PLACE_SIZE];
@@ -73,63 +73,85 @@ fn show_slot(a: &[u8], b: &[u8], slot: usize) {
     put_pivots(first, second, records::record_of(1, b"e"), &mut pivots);
     put_entries(a, b, &mut bucket);
     indexes::build_index(&pivots, &bucket, &mut index);
-    print_part(indexes::slot_entries_part(&pivots, &bucket, &index, slot));
+    print_part(
+        rt,
+        indexes::slot_entries_part(&pivots, &bucket, &index, slot),
+    )
 }
 
 // The first n bytes, as far as there are so many.
-fn print_head(bytes: &[u8], n: usize) {
+fn print_head(rt: &impl Print, bytes: &[u8], n: usize) -> io::Result<()> {
     if n <= bytes.len() {
-        print_part(&bytes[..n]);
+        print_part(rt, &bytes[..n])
     } else {
-        print_part(bytes);
+        print_part(rt, bytes)
     }
 }
 
 // What a pair makes of a key.
-fn show_applied(pair: PrefixSet, key: &[u8]) {
+fn show_applied(rt: &impl Print, pair: PrefixSet, key: &[u8]) -> io::Result<()> {
     let mut dest = [0u8; MAX_LEN];
     let applied = pair.apply(key, &mut dest);
     let Answer::Value(n) = applied else {
-        io::write_all(STDOUT_FILENO, b"refused\n");
-        return;
+        return println!(rt; "refused");
     };
-    print_head(&dest, n);
+    print_head(rt, &dest, n)
 }
 
-fn main() {
-    // a key, the empty key, max, no edge, a length of 65, a byte after the key
-    io::write_all(STDOUT_FILENO, b"pivot_key_part\n");
-    show_pivot(2, b"A0");
-    show_pivot(0, b"");
-    show_pivot(65535, b"");
-    show_pivot(65534, b"");
-    show_pivot(65, b"");
-    show_pivot(1, b"A0");
-    // a key, max
-    io::write_all(STDOUT_FILENO, b"entry_key_part\n");
-    show_entry(2, b"A0");
-    show_entry(65535, b"");
-    // T at places 0, 2 and 3, which is past the last; T with its first two pivots exchanged
-    io::write_all(STDOUT_FILENO, b"get_key_part\n");
+// A key, the empty key, max, no edge, a length of 65, a byte after the key.
+fn show_pivots(rt: &impl Print) -> io::Result<()> {
+    println!(rt; "pivot_key_part")?;
+    show_pivot(rt, 2, b"A0")?;
+    show_pivot(rt, 0, b"")?;
+    show_pivot(rt, 65535, b"")?;
+    show_pivot(rt, 65534, b"")?;
+    show_pivot(rt, 65, b"")?;
+    show_pivot(rt, 1, b"A0")
+}
+
+// A key, max.
+fn show_entries(rt: &impl Print) -> io::Result<()> {
+    println!(rt; "entry_key_part")?;
+    show_entry(rt, 2, b"A0")?;
+    show_entry(rt, 65535, b"")
+}
+
+// T at places 0, 2 and 3, which is past the last; T with its first two pivots exchanged.
+fn show_places(rt: &impl Print) -> io::Result<()> {
+    println!(rt; "get_key_part")?;
     let a = records::record_of(2, b"A0");
     let b = records::record_of(2, b"A5");
     let c = records::record_of(1, b"B");
-    show_place(a, b, c, 0);
-    show_place(a, b, c, 2);
-    show_place(a, b, c, 3);
-    show_place(b, a, c, 0);
-    // entries in slots 0 and 1, both in slot 1 and slot 0 empty, slot 2, which is past the last, and entries that fall
-    io::write_all(STDOUT_FILENO, b"slot_entries_part\n");
-    show_slot(b"a", b"c", 0);
-    show_slot(b"a", b"c", 1);
-    show_slot(b"c", b"d", 0);
-    show_slot(b"a", b"c", 2);
-    show_slot(b"c", b"a", 0);
-    // 41 changed to 43 in 41 30, the same pair reversed, an absent pair, and a key that the old prefix doesn't begin
-    io::write_all(STDOUT_FILENO, b"PrefixSet::apply\n");
+    show_place(rt, a, b, c, 0)?;
+    show_place(rt, a, b, c, 2)?;
+    show_place(rt, a, b, c, 3)?;
+    show_place(rt, b, a, c, 0)
+}
+
+// Entries in slots 0 and 1, both in slot 1 and slot 0 empty, slot 2, which is past the last, and entries that fall.
+fn show_slots(rt: &impl Print) -> io::Result<()> {
+    println!(rt; "slot_entries_part")?;
+    show_slot(rt, b"a", b"c", 0)?;
+    show_slot(rt, b"a", b"c", 1)?;
+    show_slot(rt, b"c", b"d", 0)?;
+    show_slot(rt, b"a", b"c", 2)?;
+    show_slot(rt, b"c", b"a", 0)
+}
+
+// 41 changed to 43 in 41 30, the same pair reversed, an absent pair, and a key that the old prefix doesn't begin.
+fn show_pairs(rt: &impl Print) -> io::Result<()> {
+    println!(rt; "PrefixSet::apply")?;
     let pair = PrefixSet::of(b"A", b"C");
-    show_applied(pair, b"A0");
-    show_applied(pair.reverse().pair, b"C0");
-    show_applied(PrefixSet::absent(), b"A0");
-    show_applied(pair, b"C0");
+    show_applied(rt, pair, b"A0")?;
+    show_applied(rt, pair.reverse().pair, b"C0")?;
+    show_applied(rt, PrefixSet::absent(), b"A0")?;
+    show_applied(rt, pair, b"C0")
+}
+
+fn main(rt: HostRuntime) -> io::Result<()> {
+    show_pivots(&rt)?;
+    show_entries(&rt)?;
+    show_places(&rt)?;
+    show_slots(&rt)?;
+    show_pairs(&rt)
 }

@@ -16,6 +16,5 @@ returns-in_default-clause-edges c = search own
 
 pub write_in-requires : goal.write_in-requires
 write_in-requires c =
-    let made = c.half_edges-cut.ensures in
-    let short = edges_taken _ _ _ _ made.0 _ c.enum_told-1.given.1 in
-    (search own, short, made.1 short)
+    let short = edges_taken _ _ _ _ c.in-Value.ensures.answered _ refl in
+    (search own, short, c.half_edges-cut.ensures.written short)

@@ -1,0 +1,22 @@
+use mathlib.Core.Path.{refl}
+use Rattle.cuts.proofs.Writes.{edge_refused, edge_made}
+use borrow.Author.Rules.{rules}
+use Rattle.cuts.proofs.split.cut_at.Goals as goal
+
+ruleset own = (rules, refl, edge_refused)
+
+pub returns-in_default-clause-answered : goal.returns-in_default-clause-answered
+returns-in_default-clause-answered c = search own
+
+pub returns-in_default-clause-pivots : goal.returns-in_default-clause-pivots
+returns-in_default-clause-pivots c = search own
+
+pub returns-in_default-clause-edges : goal.returns-in_default-clause-edges
+returns-in_default-clause-edges c = search own
+
+pub write_at-requires : goal.write_at-requires
+write_at-requires c =
+    let made = c.slot_edge-cut.ensures in
+    let taken = c.enum_told-1.given.1 in
+    let edge = edge_made _ _ _ _ _ _ made.0 (search own) (search own) (search own) (search own) _ taken (search own) _ _ made.1 refl in
+    (search own, edge.0, edge.1)
