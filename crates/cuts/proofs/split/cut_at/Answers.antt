@@ -16,7 +16,5 @@ returns-in_default-clause-edges c = search own
 
 pub write_at-requires : goal.write_at-requires
 write_at-requires c =
-    let made = c.slot_edge-cut.ensures in
-    let taken = c.enum_told-1.given.1 in
-    let edge = edge_made _ _ _ _ _ _ made.0 (search own) (search own) (search own) (search own) _ taken (search own) _ _ made.1 refl in
+    let edge = edge_made _ _ _ _ _ _ c.in-Value.ensures.answered (search own) (search own) (search own) (search own) _ refl (search own) _ _ c.slot_edge-cut.ensures.written refl in
     (search own, edge.0, edge.1)
