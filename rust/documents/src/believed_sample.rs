@@ -18,14 +18,14 @@ pub const FILES: [(&str, &str); 11] = [
     (
         KEY,
         "-- Keys; spare is told of here
-use mathlib.Core.List.{List}
+use Rattle.std.specs.Prelude.{List}
 
 abbrev pub Key : Type 0
 Key = List ℕ
 
 -- not spare
-unfoldable pub tooLong : Key → Bool
-tooLong k = ltb limit (length k)
+unfoldable pub too_long : Key → Bool
+too_long k = ltb limit (length k)
 
 limit : ℕ
 limit = 64
@@ -39,13 +39,13 @@ spare k = k
     ),
     (
         "crates/model/specs/calls/Refusals.antt",
-        "use Rattle·model·specs.specs.declared.Refusal.{Refusal}
-use Rattle·model·specs.specs.declared.Answer.{Answer}
-use Rattle·model·specs.specs.declared.Answer.the-variants as answers
+        "use Rattle.model.specs.declared.Refusal.{Refusal}
+use Rattle.model.specs.declared.Answer.{Answer}
+use Rattle.model.specs.declared.Answer.TheVariants as answers
 
-infix 5 _⇒_
+infix 5 ◌⇒◌
 pub data Cause : Type 0 where
-  _⇒_ : Bool → Refusal → Cause
+  ◌⇒◌ : Bool → Refusal → Cause
 
 abbrev pub answer : List Cause → ℕ → Answer
 answer causes n = answers.Value n
@@ -53,28 +53,28 @@ answer causes n = answers.Value n
     ),
     (
         KEY_CALLS,
-        "use Rattle·model·specs.specs.declared.Refusal.the-variants.{Shape}
-use Rattle·model·specs.specs.declared.Answer.{Answer}
-use Rattle·model·specs.specs.keys.Key.{Key, tooLong, Pair}
-use Rattle·model·specs.specs.calls.Refusals.{Cause, _⇒_, answer}
-use Rattle·model·specs.specs.inner.Places.{placeOf}
+        "use Rattle.model.specs.declared.Refusal.TheVariants.{Shape}
+use Rattle.model.specs.declared.Answer.{Answer}
+use Rattle.model.specs.keys.Key.{Key, too_long, Pair}
+use Rattle.model.specs.calls.Refusals.{Cause, ◌⇒◌, answer}
+use Rattle.model.specs.inner.Places.{place_of}
 
-abbrev pub keyCauses : Pair → List Cause
-keyCauses p = (tooLong (p .spare) ⇒ Shape) ∷ []
+abbrev pub key_causes : Pair → List Cause
+key_causes p = (too_long p.spare ⇒ Shape) ∷ []
 
-abbrev pub keyAnswer : Pair → Answer
-keyAnswer p = answer (keyCauses p) 1
+abbrev pub key_answer : Pair → Answer
+key_answer p = answer (key_causes p) 1
 ",
     ),
-    ("crates/model/specs/inner/Places.antt", "abbrev pub placeOf : ℕ\nplaceOf = 0\n"),
+    ("crates/model/specs/inner/Places.antt", "abbrev pub place_of : ℕ\nplace_of = 0\n"),
     (
         CLAIM,
-        "use Rattle·model·specs.specs.declared.Unused.{Unused}
-use Rattle·model·specs.specs.keys.Key.{Pair}
-use Rattle·model·specs.specs.calls.KeyCalls.{keyAnswer}
+        "use Rattle.model.specs.declared.Unused.{Unused}
+use Rattle.model.specs.keys.Key.{Pair}
+use Rattle.model.specs.calls.KeyCalls.{key_answer}
 
 pub record TwoOrders (k : Pair) : Type 0 where
-  pub exactly : keyAnswer k ≡ keyAnswer k
+  pub exactly : key_answer k ≡ key_answer k
 
 abbrev pub Demand3 : Type 0
 Demand3 = (k : Pair) → TwoOrders k
@@ -82,30 +82,30 @@ Demand3 = (k : Pair) → TwoOrders k
     ),
     (
         LAWS,
-        "use Rattle·model·specs.specs.cuts.TwoOrders.{TwoOrders, Demand3}
+        "use Rattle.model.specs.cuts.TwoOrders.{TwoOrders, Demand3}
 
-pub one-order : TwoOrders
+pub one_order : TwoOrders
     → TwoOrders
 
-pub two-orders : Demand3
-two-orders k = refl
+pub two_orders : Demand3
+two_orders k = refl
 ",
     ),
     (
         CODE,
-        "ghost use Rattle·model.specs.keys.Key.{spare};
-ghost use Rattle·model.specs.calls.KeyCalls.{keyAnswer};
-ghost use Rattle·model.specs.inner.Places.{placeOf};
+        "ghost use Rattle.model.specs.keys.Key.{spare};
+ghost use Rattle.model.specs.calls.KeyCalls.{key_answer};
+ghost use Rattle.model.specs.inner.Places.{place_of};
 
 pub fn key(k: &[u8]) -> Answer
-    ensures { λ r. ⌜ r ≡ keyAnswer (now (k .entry)) ⌝ }
+    ensures { result ≡ key_answer k.now }
 {
     leaf(k)
 }
 
 // Not a call.
 pub fn leaf(k: &[u8]) -> Answer
-    ensures { λ r. ⌜ r ≡ spare placeOf ⌝ }
+    ensures { result ≡ spare place_of }
 {
     k
 }
@@ -113,11 +113,11 @@ pub fn leaf(k: &[u8]) -> Answer
     ),
     (
         BOUNDARY,
-        "ghost use Rattle·model.specs.calls.KeyCalls.{keyAnswer};
-ghost use Rattle·model.specs.keys.Key.{spare};
+        "ghost use Rattle.model.specs.calls.KeyCalls.{key_answer};
+ghost use Rattle.model.specs.keys.Key.{spare};
 
 pub extern \"C\" fn jd_key(k: &[u8]) -> u32
-    ensures { λ r. ⌜ r ≡ keyAnswer k ⌝ }
+    ensures { result ≡ key_answer k.now }
 {
     0
 }
@@ -133,10 +133,10 @@ pub extern \"C\" fn jd_key(k: &[u8]) -> u32
 | file | definitions | what they say |
 |---|---|---|
 | `crates/model/src/lib.rt` | `Refusal`, `Answer` | why not, or how much |
-| `keys/Key` | `Key`, `limit`, `tooLong` | at most 64 |
+| `keys/Key` | `Key`, `limit`, `too_long` | at most 64 |
 | `keys/Key` | `Pair` | one |
 | `calls/Refusals` | `Cause`, `answer` | the first |
-| `calls/KeyCalls` | `keyCauses`, `keyAnswer` | the call |
+| `calls/KeyCalls` | `key_causes`, `key_answer` | the call |
 
 ## Claims
 

@@ -38,29 +38,34 @@ fn the_sample_passes() {
 fn a_renamed_definition_is_told() {
     let renamed = FILES.map(|(path, text)| match path {
         DOCUMENT => (path, text.to_string()),
-        _ => (path, text.replace("tooLong", "tooMany")),
+        _ => (path, text.replace("too_long", "too_many")),
     });
     let files = renamed
         .each_ref()
         .map(|(path, text)| (*path, text.as_str()));
-    let gone = "docs/BELIEVED.md:8: there is no definition `tooLong` in";
-    let new = "`tooMany` has no row in docs/BELIEVED.md";
+    let gone = "docs/BELIEVED.md:8: there is no definition `too_long` in";
+    let new = "`too_many` has no row in docs/BELIEVED.md";
     all_told(&Repository::of(&files), &[gone, new]);
 }
 
 #[test]
 fn what_is_added_to_a_contract_needs_a_row() {
     let call = "keys/Key.antt:17: `spare` has no row in docs/BELIEVED.md, but crates/keys/src/lib.rt:5: key uses it";
-    told(CODE, "keyAnswer (now", "keyAnswer spare (now", &[call]);
+    told(CODE, "key_answer k.now", "key_answer spare k.now", &[call]);
     let boundary =
         "`spare` has no row in docs/BELIEVED.md, but crates/joistdenim/src/lib.rt:4: jd_key";
-    told(BOUNDARY, "keyAnswer k", "keyAnswer (spare k)", &[boundary]);
+    told(
+        BOUNDARY,
+        "key_answer k.now",
+        "key_answer (spare k.now)",
+        &[boundary],
+    );
 }
 
 #[test]
 fn what_is_added_to_a_definition_or_a_claim_needs_a_row() {
     let definition =
-        "`spare` has no row in docs/BELIEVED.md, but crates/model/specs/keys/Key.antt:tooLong";
+        "`spare` has no row in docs/BELIEVED.md, but crates/model/specs/keys/Key.antt:too_long";
     told(KEY, "(length k)", "(length (spare k))", &[definition]);
     let claim = "`Unused` has no row in docs/BELIEVED.md, but crates/model/specs/cuts/TwoOrders.antt:Demand3";
     told(CLAIM, "(k : Pair) →", "(k : Unused) →", &[claim]);
@@ -120,11 +125,11 @@ fn a_row_is_whole() {
 #[test]
 fn a_definition_stands_after_those_that_it_uses() {
     let in_file =
-        "BELIEVED.md:8: `tooLong` stands before `limit` of crates/model/specs/keys/Key.antt, which";
+        "BELIEVED.md:8: `too_long` stands before `limit` of crates/model/specs/keys/Key.antt, which";
     told(
         DOCUMENT,
-        "`limit`, `tooLong`",
-        "`tooLong`, `limit`",
+        "`limit`, `too_long`",
+        "`too_long`, `limit`",
         &[in_file],
     );
     let refusals = "| `calls/Refusals` | `Cause`, `answer` | the first |\n";
@@ -143,21 +148,27 @@ fn the_rows_of_a_file_stand_together() {
 
 #[test]
 fn an_inner_definition_is_for_inner_functions() {
-    let inner = "`placeOf` is for inner functions alone, but crates/keys/src/lib.rt:5: key uses it";
-    told(CODE, "keyAnswer (now", "keyAnswer placeOf (now", &[inner]);
+    let inner =
+        "`place_of` is for inner functions alone, but crates/keys/src/lib.rt:5: key uses it";
+    told(
+        CODE,
+        "key_answer k.now",
+        "key_answer place_of k.now",
+        &[inner],
+    );
 }
 
 #[test]
 fn each_claim_has_a_row_of_its_own() {
-    let own = "TwoOrders.antt:6: two-orders: `Demand3` has no row of its own under `## Claims`";
+    let own = "TwoOrders.antt:6: two_orders: `Demand3` has no row of its own under `## Claims`";
     let rows = "`TwoOrders` | alike |\n| `cuts/TwoOrders` | `Demand3`";
     told(DOCUMENT, rows, "`TwoOrders`, `Demand3`", &[own]);
     let section = "there is no section `## Claims`";
     let heading = "\n## Claims\n\n| file | claim | what it says |\n|---|---|---|\n";
     told(DOCUMENT, heading, "", &[section, own]);
     let unstated = "no contract of a call and no claim uses `Demand3`";
-    let law = "two-orders : Demand3";
-    told(LAWS, law, "two-orders : TwoOrders", &[unstated]);
+    let law = "two_orders : Demand3";
+    told(LAWS, law, "two_orders : TwoOrders", &[unstated]);
 }
 
 #[test]
@@ -165,29 +176,25 @@ fn a_call_is_a_public_function_that_cites_a_definition() {
     let none = "docs/CALLS.md:3: keys::keys is no public function of a crate";
     told(CALLS, "`keys::key`", "`keys::keys`", &[none]);
     let call = "crates/keys/src/lib.rt:5: key: its contract cites no definition";
-    told(
-        CODE,
-        "keyAnswer (now (k .entry))",
-        "now (k .entry)",
-        &[call],
-    );
+    told(CODE, "key_answer k.now", "k.now", &[call]);
     let boundary = "crates/joistdenim/src/lib.rt:4: jd_key: its contract cites no definition";
-    told(BOUNDARY, "r ≡ keyAnswer k", "r ≡ k", &[boundary]);
+    told(BOUNDARY, "key_answer k.now", "k.now", &[boundary]);
 }
 
 #[test]
 fn what_brings_in_names_is_read() {
     let unread = "keys/Key.antt:2: what is used here isn't understood";
-    let used = "use mathlib.Core.List.{List}";
+    let used = "use Rattle.std.specs.Prelude.{List}";
     for other in [
         "keys.Order as order",
         "keys.Order.{lte as below}",
         "keys.Order.{",
+        "keys.{Order.{lte}}",
     ] {
-        let other = format!("use Rattle·model·specs.specs.{other}");
+        let other = format!("use Rattle.model.specs.{other}");
         told(KEY, used, &other, &[unread]);
     }
-    let missing = "calls/Refusals.antt: there is no definition `told`, which crates/model/specs/calls/KeyCalls.antt:keyCauses uses";
+    let missing = "calls/Refusals.antt: there is no definition `told`, which crates/model/specs/calls/KeyCalls.antt:key_causes uses";
     let files = [("answer}", "answer, told}"), ("∷ []", "∷ told")];
     let text = files
         .iter()

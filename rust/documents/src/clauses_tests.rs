@@ -65,20 +65,20 @@ fn theorem_of_another_predicate() {
 fn predicate_in_another_word_or_in_the_proof() {
     let found = faults(&with(THEOREMS, "WFPivots A", "WFPivotsOf A"));
     assert_eq!(found, [UNSTATED]);
-    let from = "WFPivots A\n    → Refuses refused 3 B\nbounded-pivots-8 = refl";
-    let to = "A\n    → Refuses refused 3 B\nbounded-pivots-8 = WFPivots";
+    let from = "WFPivots A\n    → Refuses refused 3 B\nbounded_pivots_8 = refl";
+    let to = "A\n    → Refuses refused 3 B\nbounded_pivots_8 = WFPivots";
     assert_eq!(faults(&with(THEOREMS, from, to)), [UNSTATED]);
 }
 
 #[test]
 fn predicate_by_a_definition() {
     let theorem = (THEOREMS, "WFPivots A", "Sorted A");
-    let remark = |to| (DOCUMENT, "bounded-pivots-8` | |", to);
-    let rendered = "bounded-pivots-8` | 3; `WFPivots` by `Sorted`, of the pivots |";
+    let remark = |to| (DOCUMENT, "bounded_pivots_8` | |", to);
+    let rendered = "bounded_pivots_8` | 3; `WFPivots` by `Sorted`, of the pivots |";
     assert_eq!(faults(&with_each(&[theorem, remark(rendered)])), [""; 0]);
-    let other = "bounded-pivots-8` | `WFPivots` by `Rising` |";
+    let other = "bounded_pivots_8` | `WFPivots` by `Rising` |";
     assert_eq!(faults(&with_each(&[theorem, remark(other)])), [UNSTATED]);
-    let unsaid = "bounded-pivots-8` | `Fits` by `Sorted` |";
+    let unsaid = "bounded_pivots_8` | `Fits` by `Sorted` |";
     assert_eq!(faults(&with_each(&[theorem, remark(unsaid)])), [UNSTATED]);
 }
 
@@ -86,7 +86,7 @@ fn predicate_by_a_definition() {
 fn method_with_another_status() {
     let of_source = (SOURCE, "requires Fits(pt)", "requires WFPivots(k)");
     let from = "| 10 | `requires Fits(pt)` | dropped | | S1 |";
-    let theorem = "`crates/contracts/proofs/Tables.antt:bounded-pivots-8`";
+    let theorem = "`crates/contracts/proofs/Tables.antt:bounded_pivots_8`";
     let to = format!("| 10 | `requires WFPivots(k)` | replaced | {theorem} | S1 |");
     let found = faults(&with_each(&[of_source, (DOCUMENT, from, &to)]));
     let wanted = "docs/CONTRACTS.md:21: `WFPivots` has another status at docs/CONTRACTS.md:19";

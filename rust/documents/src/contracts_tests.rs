@@ -207,7 +207,7 @@ fn refusal_without_theorem() {
 #[test]
 fn a_law_that_is_no_theorem() {
     let from = "dropped | `crates/tables/src/lib.rt:MAX_PIVOTS` |";
-    let to = "implied | `crates/contracts/proofs/Tables.antt:shared-law` |";
+    let to = "implied | `crates/contracts/proofs/Tables.antt:shared_law` |";
     row(9, from, to, THEOREM_NEEDED);
 }
 

@@ -66,7 +66,7 @@ impl<'a> Definitions<'a> {
             Some(self.owner(&of))
         };
         names_in(text)
-            .filter_map(|name| named(name.to_string()).or_else(|| named(format!("_{name}_"))))
+            .filter_map(|name| named(name.to_string()).or_else(|| named(format!("◌{name}◌"))))
             .collect()
     }
 
@@ -197,12 +197,12 @@ mod tests {
         ),
         (
             CUT,
-            "use Rattle·model·specs.specs.declared.Answer.the-variants as answers
-use Rattle·model·specs.specs.declared.Why.the-variants.{Long}
+            "use Rattle.model.specs.declared.Answer.TheVariants as answers
+use Rattle.model.specs.declared.Why.TheVariants.{Long}
 
 -- a half
 pub data Cut : Type 0 where
-  _or_ : ℕ → ℕ → Cut
+  ◌or◌ : ℕ → ℕ → Cut
 
 abbrev pub cut : ℕ
 cut = long
@@ -212,12 +212,12 @@ long = answers.No Long
 
 abbrev pub half {ℓ} : ℕ
 half = 1
-infix 5 _or_
+infix 5 ◌or◌
 ",
         ),
         (
             END,
-            "use Rattle·model·specs.specs.cuts.Cut.{_or_, cut, half}
+            "use Rattle.model.specs.cuts.Cut.{◌or◌, cut, half}
 
 pub record Same : Type 0 where
   pub cut : ℕ
@@ -226,7 +226,7 @@ abbrev pub end : ℕ
 end = (1 or 2) cut -- or half
 
 abbrev pub last : Same → ℕ
-last s = s .half
+last s = s.half
 ",
         ),
     ];

@@ -16,7 +16,7 @@ abbrev pub short {ℓ} : A
 abbrev kept : A
 unfoldable pub long : A
 pub record Dests (n : ℕ) : Type 0 where
-  pub forPivots : List ℕ
+  pub for_pivots : List ℕ
   own : ℕ
 
 pub data End : Type 0 where
@@ -29,18 +29,18 @@ pub data End : Type 0 where
 data Inner : Type 0 where
   inner : Inner
 module _ (k : Key) where
-  pub record-size : A
+  pub record_size : A
 ";
     let wanted = [
         "plain",
         "short",
         "long",
         "Dests",
-        "forPivots",
+        "for_pivots",
         "End",
         "wrote",
         "refused",
-        "record-size",
+        "record_size",
     ];
     assert_eq!(names("a.antt", text), wanted);
 }

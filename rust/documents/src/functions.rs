@@ -4,6 +4,9 @@ use crate::words::words;
 /// What a clause begins with.
 const KEYWORDS: [&str; 2] = ["requires", "ensures"];
 
+/// What begins a line that hands on names.
+const HANDED_ON: &str = "pub use ";
+
 #[derive(Debug, PartialEq)]
 pub struct Function {
     pub line: usize,
@@ -34,12 +37,17 @@ pub fn functions(text: &str) -> Vec<Function> {
     found
 }
 
-/// The crate, or the module, from which a file of code hands a function on by its name.
+/// The crate, or the module, from which a file of code hands a function on by its name, alone or in a group, which may
+/// go over several lines.
 pub fn origin<'a>(text: &'a str, wanted: &str) -> Option<&'a str> {
-    text.lines().find_map(|line| {
-        let path = line.strip_prefix("pub use ")?.strip_suffix(';')?;
-        let (from, name) = path.split_once("::")?;
-        (name == wanted).then_some(from)
+    let begins = text.match_indices(HANDED_ON);
+    let uses = begins.filter(|(at, _)| text[..*at].is_empty() || text[..*at].ends_with('\n'));
+    let mut paths = uses.filter_map(|(at, mark)| text[at + mark.len()..].split(';').next());
+    paths.find_map(|path| {
+        let (from, names) = path.split_once("::")?;
+        let group = names.strip_prefix('{').and_then(|n| n.strip_suffix('}'));
+        let mut names = group.unwrap_or(names).split(',').map(str::trim);
+        names.any(|name| name == wanted).then_some(from)
     })
 }
 
@@ -101,13 +109,13 @@ pub fn bare(a: u8) -> u8 {
 }
 
 fn own(a: u8) -> u8
-    requires { ⌜ a ≤ 1 ⌝ }
+    requires { a ≤ 1 }
 {
     a
 }
 
 pub(crate) fn near(a: u8) -> u8
-    requires { ⌜ a ≤ 1 ⌝ }
+    requires { a ≤ 1 }
 {
     a
 }
@@ -116,15 +124,15 @@ impl Pair {
     pub fn asked<'a>(
         a: &'a [u8], // requires { nothing }
     ) -> &'a [u8]
-        ensures count { λ r. ⌜ Unit {0} ⌝ }
-        requires { ⌜ a ≤ 1 ⌝ }
+        ensures count { Unit {0} }
+        requires few { a ≤ 1 }
     {
         a
     }
 }
 
 pub extern \"C\" fn out(a: u8) -> u8
-    ensures { λ r. ⌜ r ≡ a ⌝ }
+    ensures { result ≡ a }
 {
     a
 }
@@ -140,10 +148,7 @@ pub extern \"C\" fn out(a: u8) -> u8
             clauses.map(|c| (c.is_requires, c.text.trim())).collect()
         };
         assert_eq!(clauses(0), []);
-        assert_eq!(
-            clauses(1),
-            [(false, "λ r. ⌜ Unit {0} ⌝"), (true, "⌜ a ≤ 1 ⌝")]
-        );
-        assert_eq!(clauses(2), [(false, "λ r. ⌜ r ≡ a ⌝")]);
+        assert_eq!(clauses(1), [(false, "Unit {0}"), (true, "a ≤ 1")]);
+        assert_eq!(clauses(2), [(false, "result ≡ a")]);
     }
 }

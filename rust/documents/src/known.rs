@@ -107,6 +107,7 @@ impl<'a> Known<'a> {
             || is_byte
             || is_number
             || self.words.contains(word)
+            || self.laws.contains(word)
             || self.places.contains(word)
             || self.words.iter().any(begins)
     }

@@ -10,6 +10,9 @@ const DOCUMENT: &str = "docs/DEVELOPING.md";
 const TITLE: &str = "## The layers";
 const FENCE: &str = "```";
 
+/// What the list has behind the name of a crate that is made a library for others.
+const STATIC: &str = " staticlib";
+
 /// What begins a remark, in the list and in the drawing.
 const REMARK: char = '#';
 
@@ -34,7 +37,8 @@ pub fn check(repository: &Repository) -> Report {
 /// A crate and what it is built on.
 fn built_on(line: &str) -> Option<(&str, Vec<&str>)> {
     let (name, below) = without_remark(line).split_once(':')?;
-    Some((name.trim(), words(below).collect()))
+    let name = name.strip_suffix(STATIC).unwrap_or(name).trim();
+    Some((name, words(below).collect()))
 }
 
 fn without_remark(line: &str) -> &str {
@@ -81,7 +85,7 @@ mod tests {
         (
             LIST,
             "# The crates: NAME: what it is built on\n\nmodel:   # no functions\nscan: model   # runs\n\
-             keys: model scan io   # compare\n",
+             keys staticlib: model scan io   # compare\n",
         ),
         (
             DOCUMENT,

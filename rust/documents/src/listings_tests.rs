@@ -16,7 +16,7 @@ const SHELF: [Place; 8] = [
     place(HEADER, Says::Order, "in the order ", "."),
     place(HEADER, Says::Last, "i <= ", ";"),
     place(ROWS, Says::Names("∷"), "\nrefusals =", "[]"),
-    place(ROWS, Says::Count, "oneTo", " :"),
+    place(ROWS, Says::Count, "one_to_", " :"),
     place(
         TEXT,
         Says::Lines("| {number} | `{name}` | *"),
@@ -59,7 +59,7 @@ for (i = 1; i <= JD_NOT_MEETING; i++)
     ),
     (
         ROWS,
-        "-- all\nrefusals =\n    Shape ∷ NoRoom ∷\n    NotMeeting ∷ []\n\nabbrev oneToThree : A\n",
+        "-- all\nrefusals =\n    Shape ∷ NoRoom ∷\n    NotMeeting ∷ []\n\nabbrev one_to_three : A\n",
     ),
     (
         TEXT,
@@ -163,8 +163,8 @@ fn exchanged_order() {
 
 #[test]
 fn another_count_or_last() {
-    let wanted = "crates/shelf/proofs/Rows.antt:6: `three` is expected, found `Two`";
-    change(ROWS, "oneToThree", "oneToTwo", wanted);
+    let wanted = "crates/shelf/proofs/Rows.antt:6: `three` is expected, found `two`";
+    change(ROWS, "one_to_three", "one_to_two", wanted);
     let wanted = "docs/SHELF.md:1: `3` is expected, found `15`";
     change(TEXT, "1 to 3", "1 to 15", wanted);
     let wanted = "include/shelf.h:10: `JD_NOT_MEETING` is expected, found `JD_NO_ROOM`";

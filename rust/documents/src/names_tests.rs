@@ -9,7 +9,7 @@ const FILES: [(&str, &str); 12] = [
     ("docs/src/lib/M.dfy", "  // each bucket is non-empty\n  requires e.Element?\n"),
     (
         "crates/model/specs/keys/Order.antt",
-        "-- spokenOf here\nabbrev pub isKey : A\npub lte-refl : A\nown-law : A\nown-law = longer-name\n",
+        "-- told_here\nuse Rattle.std.specs.Prelude.{get_or}\nabbrev pub is_key : A\npub lte_refl : A\npub lte-is_key : A\nown_law : A\nown_law = longer_name\n",
     ),
     (
         "crates/tables/src/lib.rt",
@@ -60,7 +60,7 @@ fn paths() {
     ]);
     passes(&[
         "target/bin/list_table",
-        "isKey = \"crates/tables\"",
+        "is_key = \"crates/tables\"",
         "must-fail",
         "swapped",
     ]);
@@ -71,7 +71,7 @@ fn path_missing() {
     fails("docs/FORMATS.md", "there is no docs/FORMATS.md");
     fails("FORMATS.md", "there is no FORMATS.md");
     fails("keys/Orders", "there is no keys/Orders");
-    fails("isKey docs/x.c", "there is no docs/x.c");
+    fails("is_key docs/x.c", "there is no docs/x.c");
 }
 
 #[test]
@@ -108,37 +108,39 @@ fn name_not_public_in_crate() {
 
 #[test]
 fn law_not_declared() {
-    passes(&["lte-refl"]);
+    passes(&["lte_refl", "lte-is_key"]);
     fails("lte-trans", "there is no law lte-trans");
-    fails("own-law", "there is no law own-law");
-    fails("longer-name", "there is no law longer-name");
+    fails("lte_trans", "lte_trans is no word of the code");
+    fails("own_law", "own_law is no word of the code");
+    fails("longer_name", "longer_name is no word of the code");
 }
 
 #[test]
 fn words() {
     passes(&[
-        "isKey",
-        "isKey(e)",
+        "is_key",
+        "is_key(e)",
         "jd_",
         "jd_..",
         "jd_route(k, 2)",
         "Near",
+        "get_or",
     ]);
     passes(&["00 02 FF 41×62", "0x4000_0000", "a + b", "→", "--"]);
 }
 
 #[test]
 fn word_nowhere() {
-    fails("isKeys", "isKeys is no word of the code");
+    fails("is_keys", "is_keys is no word of the code");
     fails("jd_routes", "jd_routes is no word of the code");
     fails("jdx_", "jdx_ is no word of the code");
-    fails("isKey nowhere", "nowhere is no word of the code");
+    fails("is_key nowhere", "nowhere is no word of the code");
     fails("drawn_there", "drawn_there is no word of the code");
 }
 
 #[test]
 fn word_in_a_comment_alone() {
-    fails("spokenOf", "spokenOf is no word of the code");
+    fails("told_here", "told_here is no word of the code");
     fails("spoken_of", "spoken_of is no word of the code");
     fails("of_a_note", "of_a_note is no word of the code");
     fails("told_of", "told_of is no word of the code");
@@ -166,8 +168,8 @@ fn quotes_of_the_source() {
 #[test]
 fn exception_used() {
     let report = report(
-        "`rt dev`\n",
-        &[("rt", "the toolchain"), ("dev", "its command")],
+        "`rt check`\n",
+        &[("rt", "the toolchain"), ("check", "its command")],
     );
     assert_eq!((report.passed, report.failures.len()), (1, 0));
 }
@@ -175,10 +177,10 @@ fn exception_used() {
 #[test]
 fn exception_not_needed() {
     let report = report(
-        "`isKey`\n",
-        &[("isKey", "there"), ("dev", "in no document")],
+        "`is_key`\n",
+        &[("is_key", "there"), ("dev", "in no document")],
     );
-    let wanted = ["isKey", "dev"].map(|n| format!("no document needs the exception `{n}`"));
+    let wanted = ["is_key", "dev"].map(|n| format!("no document needs the exception `{n}`"));
     assert_eq!(report.failures, wanted);
 }
 
@@ -194,6 +196,6 @@ fn span_that_does_not_end() {
 
 #[test]
 fn fenced_blocks_are_not_looked_at() {
-    let report = report("```text\n`nothing_like_it`\n```\n``isKey``\n", &[]);
+    let report = report("```text\n`nothing_like_it`\n```\n``is_key``\n", &[]);
     assert_eq!((report.passed, report.failures.len()), (1, 0));
 }

@@ -64,13 +64,13 @@ pub const PLACES: &[Place] = &[
     place(
         "crates/model/proofs/CallRows.antt",
         Says::Count,
-        "abbrev pub oneTo",
+        "abbrev pub one_to_",
         " :",
     ),
     place(
         "crates/listing/proofs/Listed.antt",
-        Says::Lines("number-small {name} n e = *"),
-        "pub number-small :",
+        Says::Lines("number_small {name} n e = *"),
+        "pub number_small :",
         "",
     ),
     place(

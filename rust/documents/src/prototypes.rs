@@ -5,7 +5,7 @@ use crate::words::THIS_CRATE;
 use std::ops::Range;
 
 /// Before a function of Rattle's code that the archive has.
-const EXPORTED: &str = "#[no_mangle]";
+const EXPORTED: &str = "#[unsafe(no_mangle)]";
 
 /// What holds declarations: in a header for C++, in Rust always.
 const BLOCK: &str = "extern \"C\" {";

@@ -31,10 +31,10 @@ mod tests {
     use super::check;
     use crate::repository::Repository;
 
-    const TOTAL: &str = "pub fn least(a: u8) -> u8\n    ensures { λ r. ⌜ r ≡ a ⌝ }\n{\n    a\n}\n";
+    const TOTAL: &str = "pub fn least(a: u8) -> u8\n    ensures { result ≡ a }\n{\n    a\n}\n";
     const PARTIAL: &str = "\npub fn first(a: &[u8]) -> u8
-    requires { ⌜ 1 ≤ length (now a) ⌝ }
-    ensures { λ r. ⌜ r ≡ getD (now (a .entry)) 0 0 ⌝ }
+    requires { 1 ≤ length a.now }
+    ensures { result ≡ get_or a.now 0 0 }
 {
     a[0]
 }

@@ -104,7 +104,7 @@ mod tests {
     const FILES: [(&str, &str); 3] = [
         (
             "crates/faces/src/lib.rt",
-            "mod own;\n\npub use keys::key;\npub use keys::spare;\npub use own::here;\n",
+            "mod own;\n\npub use keys::{\n    key, spare,\n};\npub use own::here;\n",
         ),
         (
             "crates/faces/src/own.rt",

@@ -54,16 +54,16 @@ Clauses: 6. Implied by a theorem: 1. Replaced by a theorem: 1. Refusals: 1. Tota
 
 | line | clause | status | evidence | remark |
 |---|---|---|---|---|
-| 2 | `the last pivot bounds no key` | implied | `crates/contracts/proofs/Tables.antt:bounded-pivots-2` | |
+| 2 | `the last pivot bounds no key` | implied | `crates/contracts/proofs/Tables.antt:bounded_pivots_2` | |
 | 3 | `predicate WFPivots(pt: PivotTable)` | defined | `crates/model/specs/Tables.antt:WFPivots` | |
 | 4 | `requires \|pt\| > 1` | total | `crates/model/specs/Tables.antt:WFPivots` | |
 | 7 | `method GetKey(pt: PivotTable) returns (k: Key)` | replaced | `crates/tables/src/lib.rt:Table::get_key`, `include/tables.h:get_key` | by place |
-| 8 | `requires WFPivots(pt)` | refusal 1-3 | `crates/contracts/proofs/Tables.antt:bounded-pivots-8` | |
+| 8 | `requires WFPivots(pt)` | refusal 1-3 | `crates/contracts/proofs/Tables.antt:bounded_pivots_8` | |
 | 9 | `requires \|pt\| < 9` | dropped | `crates/tables/src/lib.rt:MAX_PIVOTS` | |
 | 10 | `requires Fits(pt)` | dropped | | S1 |
 | 11 | `ensures k.Some? ==> (` | parts | | |
-| 12 | `&& IsPrefix(k, pt)` | implied | `crates/contracts/proofs/Tables.antt:bounded-pivots-12` | |
-| 13 | `&& Last(pt) == k )` | replaced | `crates/contracts/proofs/Tables.antt:bounded-pivots-13b` | at 64 bytes |
+| 12 | `&& IsPrefix(k, pt)` | implied | `crates/contracts/proofs/Tables.antt:bounded_pivots_12` | |
+| 13 | `&& Last(pt) == k )` | replaced | `crates/contracts/proofs/Tables.antt:bounded_pivots_13b` | at 64 bytes |
 | 17 | `type Pkv = seq<Key>` | dropped | | S1 |
 
 ## TranslationLib.i.dfy
@@ -82,24 +82,24 @@ Nothing.
         "-- Theorems
 
 -- the last pivot bounds no key
-pub bounded-pivots-2 : A
-bounded-pivots-2 = refl
+pub bounded_pivots_2 : A
+bounded_pivots_2 = refl
 
 -- requires WFPivots(pt)
-pub bounded-pivots-8 : WFPivots A
+pub bounded_pivots_8 : WFPivots A
     → Refuses refused 3 B
-bounded-pivots-8 = refl
+bounded_pivots_8 = refl
 
 -- && IsPrefix(k, pt)
-pub bounded-pivots-12 : A
+pub bounded_pivots_12 : A
 
 module _ (k : Key) where
   -- && Last(pt)
   --   == k )
   -- where k has 64 bytes
-  pub bounded-pivots-13b : A
+  pub bounded_pivots_13b : A
 
-pub shared-law : A
+pub shared_law : A
 ",
     ),
     (

@@ -3,8 +3,10 @@ use crate::evidence::{has, public, Evidence};
 use crate::repository::Repository;
 use std::collections::BTreeMap;
 
-/// How the module of a crate of this repository begins.
-const CRATE: &str = "Rattle·";
+/// How the module of a crate begins, and how one of the toolchain's library, whose definitions are none of this
+/// repository's.
+const CRATE: &str = "Rattle.";
+const LIBRARY: &str = "Rattle.std.";
 
 /// Names and where each is from. A type's variants stand for the type, by their names or behind another name.
 #[derive(Default)]
@@ -22,7 +24,8 @@ impl Scope {
             let Some(used) = line.strip_prefix("use ") else {
                 continue;
             };
-            if used.starts_with(CRATE) && scope.take(repository, used).is_none() {
+            let is_of_crate = used.starts_with(CRATE) && !used.starts_with(LIBRARY);
+            if is_of_crate && scope.take(repository, used).is_none() {
                 scope.unread.push(i + 1);
             }
         }
@@ -38,7 +41,7 @@ impl Scope {
         if let Some((module, names)) = used.split_once(".{") {
             let place = place(repository, module)?;
             for name in names.strip_suffix('}')?.split(", ") {
-                if name.contains(char::is_whitespace) {
+                if name.contains(|c: char| c.is_whitespace() || "{}.".contains(c)) {
                     return None;
                 }
                 self.names.insert(name.to_string(), place.named(name));
@@ -69,13 +72,12 @@ impl Place {
     }
 }
 
-/// Where a module is: `Rattle·NAME.specs.FOLDER.FILE`, inside the crate `Rattle·NAME·specs.specs.FOLDER.FILE`, and for a
-/// type of the crate's code `declared.TYPE`, with `the-variants` behind it.
+/// Where a module is: `Rattle.NAME.specs.FOLDER.FILE`, and for a type of the crate's code `Rattle.NAME.specs.declared.TYPE`,
+/// with `TheVariants` behind it.
 fn place(repository: &Repository, module: &str) -> Option<Place> {
     let (name, inside) = module.strip_prefix(CRATE)?.split_once(".specs.")?;
-    let name = name.trim_end_matches("·specs");
     let parts: Vec<&str> = inside.split('.').collect();
-    if let ["declared", of] | ["declared", of, "the-variants"] = parts[..] {
+    if let ["declared", of] | ["declared", of, "TheVariants"] = parts[..] {
         let folder = format!("crates/{name}/src");
         let is_there = |text: &str| has(&public("lib.rt", text).unwrap_or_default(), of);
         let mut files = repository.under(&folder);

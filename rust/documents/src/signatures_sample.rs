@@ -7,17 +7,17 @@ pub const FILES: [(&str, &str); 4] = [
     (
         RATTLE,
         r#"// The calls on keys.
-// #[no_mangle] pub extern "C" fn jd_told_of(a: u8) -> u8
+// #[unsafe(no_mangle)] pub extern "C" fn jd_told_of(a: u8) -> u8
 use crate::tell::tell;
 
-#[no_mangle]
+#[unsafe(no_mangle)]
 pub extern "C" fn jd_compare(a: &[u8], b: &[u8], order: &mut i64) -> u32
-    ensures number { λ r. ⌜ r ≡ compared (now (a .entry)) (now (b .entry)) ⌝ }
+    ensures number { result ≡ compared a.now b.now }
 {
     tell_order(keys::compare(a, b), order)
 }
 
-#[no_mangle]
+#[unsafe(no_mangle)]
 pub extern "C" fn jd_change_prefix(
     key: &[u8],
     old: &[u8],
@@ -28,7 +28,7 @@ pub extern "C" fn jd_change_prefix(
     tell(keys::change_prefix(key, old, new, dest), value)
 }
 
-#[no_mangle]
+#[unsafe(no_mangle)]
 pub extern "C" fn jd_get_key(pivots: &[u8], place: u64, value: &mut u64) -> u32 {
     tell(tables::get_key(pivots, place), value)
 }

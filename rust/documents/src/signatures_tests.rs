@@ -136,7 +136,7 @@ fn a_parameter_more() {
 
 #[test]
 fn a_missing_function() {
-    let exported = "#[no_mangle]\npub extern \"C\" fn jd_get_key";
+    let exported = "#[unsafe(no_mangle)]\npub extern \"C\" fn jd_get_key";
     let missing = "jd_get_key: crates/joistdenim/src doesn't declare it";
     told(
         RATTLE,

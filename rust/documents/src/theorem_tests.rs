@@ -93,36 +93,36 @@ fn mark_twice() {
 
 #[test]
 fn theorem_not_cited() {
-    let more = "-- && IsPrefix(k, pt)\npub bounded-pivots-12a : A\n\nmodule _";
+    let more = "-- && IsPrefix(k, pt)\npub bounded_pivots_12a : A\n\nmodule _";
     let says = format!("the row of {SOURCE}:12 doesn't cite it");
-    let wanted = format!("{THEOREMS}:16: bounded-pivots-12a: {says}");
+    let wanted = format!("{THEOREMS}:16: bounded_pivots_12a: {says}");
     assert_eq!(faults(&with(THEOREMS, "module _", more)), [wanted]);
 }
 
 #[test]
 fn theorem_cited_by_another_row_alone() {
     let from = "dropped | `crates/tables/src/lib.rt:MAX_PIVOTS` | |";
-    let to = "implied | `crates/contracts/proofs/Tables.antt:bounded-pivots-17` | |";
+    let to = "implied | `crates/contracts/proofs/Tables.antt:bounded_pivots_17` | |";
     let text = unchanged().text(DOCUMENT).unwrap().replace(from, to);
-    let theorem = "-- type Pkv = seq<Key>\npub bounded-pivots-17 : A\n";
+    let theorem = "-- type Pkv = seq<Key>\npub bounded_pivots_17 : A\n";
     let found = faults(&also(&[(DOCUMENT, &text), (THEOREMS, theorem)]));
     let says = format!("the row of {SOURCE}:17 doesn't cite it, but docs/CONTRACTS.md:20 does");
-    let wanted = format!("{THEOREMS}:2: bounded-pivots-17: {says}");
+    let wanted = format!("{THEOREMS}:2: bounded_pivots_17: {says}");
     assert!(found.contains(&wanted), "{found:#?}");
 }
 
 #[test]
 fn theorem_of_no_row() {
-    let more = "pub bounded-pivots-5 : A\n\nmodule _";
+    let more = "pub bounded_pivots_5 : A\n\nmodule _";
     let says = format!("nothing at {SOURCE}:5 can have a row");
-    let wanted = format!("{THEOREMS}:15: bounded-pivots-5: {says}");
+    let wanted = format!("{THEOREMS}:15: bounded_pivots_5: {says}");
     assert_eq!(faults(&with(THEOREMS, "module _", more)), [wanted]);
 }
 
 #[test]
 fn theorem_under_another_text() {
     let says = "the comment above must begin `requires WFPivots(pt)`, found `requires WFPivots(p)`";
-    let wanted = format!("{THEOREMS}:8: bounded-pivots-8: {says}");
+    let wanted = format!("{THEOREMS}:8: bounded_pivots_8: {says}");
     assert_eq!(
         faults(&with(THEOREMS, "WFPivots(pt)", "WFPivots(p)")),
         [wanted]
@@ -132,7 +132,7 @@ fn theorem_under_another_text() {
 #[test]
 fn theorem_apart_from_its_comment() {
     let says = "the comment above must begin `requires WFPivots(pt)`, found ``";
-    let wanted = format!("{THEOREMS}:9: bounded-pivots-8: {says}");
+    let wanted = format!("{THEOREMS}:9: bounded_pivots_8: {says}");
     assert_eq!(
         faults(&with(THEOREMS, "WFPivots(pt)\n", "WFPivots(pt)\n\n")),
         [wanted]
@@ -142,9 +142,9 @@ fn theorem_apart_from_its_comment() {
 #[test]
 fn theorem_twice() {
     let path = "crates/contracts/proofs/Other.antt";
-    let text = "-- requires WFPivots(pt)\npub bounded-pivots-8 : A\n";
+    let text = "-- requires WFPivots(pt)\npub bounded_pivots_8 : A\n";
     let found = faults(&also(&[(path, text)]));
-    let wanted = format!("{path}:2, {THEOREMS}:8: bounded-pivots-8 is there more than once");
+    let wanted = format!("{path}:2, {THEOREMS}:8: bounded_pivots_8 is there more than once");
     assert!(found.contains(&wanted), "{found:#?}");
 }
 
@@ -172,8 +172,8 @@ fn refusal_whose_number_isnt_given() {
 fn refusal_that_only_the_proof_names() {
     let found = faults(&with(
         THEOREMS,
-        "→ Refuses refused 3 B\nbounded-pivots-8 = refl",
-        "→ B\nbounded-pivots-8 = Refuses refused 3",
+        "→ Refuses refused 3 B\nbounded_pivots_8 = refl",
+        "→ B\nbounded_pivots_8 = Refuses refused 3",
     ));
     let wanted = "docs/CONTRACTS.md:19: no theorem of it states `Refuses .. 3`";
     assert_eq!(found, [wanted]);

@@ -8,9 +8,9 @@ const FOLDER: &str = "crates/contracts/proofs";
 
 /// The files of the source, and how the names of their theorems begin.
 pub const FILES: [(&str, &str); 3] = [
-    ("BoundedPivotsLib.i.dfy", "bounded-pivots"),
-    ("TranslationLib.i.dfy", "translation-lib"),
-    ("TranslationImpl.i.dfy", "translation-impl"),
+    ("BoundedPivotsLib.i.dfy", "bounded_pivots"),
+    ("TranslationLib.i.dfy", "translation_lib"),
+    ("TranslationImpl.i.dfy", "translation_impl"),
 ];
 
 pub struct Theorem {
@@ -69,7 +69,7 @@ pub fn is_theorem(evidence: &Evidence) -> bool {
 /// The file, as an index, and the line that a theorem is named after.
 fn line_of(name: &str) -> Option<(usize, usize)> {
     FILES.iter().enumerate().find_map(|(file, (_, prefix))| {
-        let place = name.strip_prefix(prefix)?.strip_prefix('-')?;
+        let place = name.strip_prefix(prefix)?.strip_prefix('_')?;
         let line = place.strip_suffix(|c: char| c.is_ascii_lowercase());
         Some((file, line.unwrap_or(place).parse().ok()?))
     })

@@ -14,11 +14,11 @@ const CASES: &str = "vectors/keys/compare.txt";
 const FILES: [(&str, &str); 11] = [
     (
         BOUNDARY,
-        "#[no_mangle]\npub extern \"C\" fn jd_compare(a: &[u8]) -> u32 {\n    0\n}\n",
+        "#[unsafe(no_mangle)]\npub extern \"C\" fn jd_compare(a: &[u8]) -> u32 {\n    0\n}\n",
     ),
     (
         "crates/joistdenim/src/of_parent_child.rt",
-        "#[no_mangle]\npub extern \"C\" fn jd_asked(slot: u64) -> u32 {\n    0\n}\n",
+        "#[unsafe(no_mangle)]\npub extern \"C\" fn jd_asked(slot: u64) -> u32 {\n    0\n}\n",
     ),
     (
         HEADER,

@@ -20,7 +20,8 @@ fn ending(path: &str) -> &str {
     path.rsplit_once('.').map_or("", |(_, ending)| ending)
 }
 
-/// Words outside comments; the source's count everywhere. A law's name is one word.
+/// Words outside comments; the source's count everywhere. A law's name, of words joined by hyphens or underscores, is one
+/// word, and counts where it is brought in: what is brought in is public somewhere.
 pub fn words_of_code(path: &str, text: &str) -> Vec<String> {
     let mark = match ending(path) {
         "dfy" if path.starts_with("docs/") => None,
@@ -35,7 +36,10 @@ pub fn words_of_code(path: &str, text: &str) -> Vec<String> {
         if !block {
             let code = mark.map_or(line, |mark| line.split(mark).next().unwrap_or(""));
             if mark == Some("--") {
-                found.extend(tokens(code).into_iter().filter(|t| !t.contains('-')));
+                let brought_in = code.starts_with("use ");
+                let is_law =
+                    |token: &str| token.contains('-') || token.contains('_') && !brought_in;
+                found.extend(tokens(code).into_iter().filter(|token| !is_law(token)));
             } else {
                 found.extend(words(code));
             }
