@@ -7,8 +7,13 @@ use crate::repository::Repository;
 use crate::words::words;
 use std::collections::BTreeSet;
 
-/// Files that tell how it was, and this crate, which has samples.
-const APART: [&str; 3] = ["CHANGELOG.md", "docs/changes/", "rust/documents/"];
+/// Files that tell how it was, patches of what is not done, and this crate, which has samples.
+const APART: [&str; 4] = [
+    "CHANGELOG.md",
+    "docs/changes/",
+    "docs/unfinished/",
+    "rust/documents/",
+];
 
 /// What a place says, piece by piece, each with its line, and the line where it ends.
 struct Said<'a> {
