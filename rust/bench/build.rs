@@ -1,4 +1,4 @@
-//! Links `counts`, and no other program, to its archive, which `rt staticlib` writes beside that of
+//! Links `counts`, and no other program, to its archive, which `tools/build` writes beside that of
 //! the library.
 use std::env;
 use std::path::PathBuf;
@@ -11,7 +11,7 @@ fn main() {
         // No error, as the other programs of this package do without.
         println!(
             "cargo::warning=there is no {}, which the program counts needs: make it with \
-             'rt staticlib counts'",
+             'tools/build counts'",
             archive.display()
         );
     }

@@ -1,4 +1,4 @@
-//! Tells cargo where the archive is: in JOISTDENIM_LIB_DIR, else where `rt staticlib` writes it.
+//! Tells cargo where the archive is: in JOISTDENIM_LIB_DIR, else where `tools/build` writes it.
 //! Where it is missing, the linker would say so in its own words and not how to make it.
 use std::env;
 use std::path::{absolute, Path, PathBuf};
@@ -14,7 +14,7 @@ fn main() {
     println!("cargo::rerun-if-changed={}", archive.display());
     if !archive.is_file() {
         println!(
-            "cargo::error=there is no {}: make it with 'rt staticlib joistdenim', or set \
+            "cargo::error=there is no {}: make it with 'tools/build joistdenim', or set \
              JOISTDENIM_LIB_DIR to the folder that has {ARCHIVE}",
             archive.display()
         );
