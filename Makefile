@@ -34,7 +34,7 @@ all: $(archive) $(command)
 
 $(archive):
 	@command -v rt >/dev/null || { echo "No $@: it is made by rt, the Rattle toolchain, or put there by you" >&2; exit 1; }
-	rt staticlib joistdenim
+	tools/build joistdenim
 
 # The command is linked with the archive that is installed, whatever the environment says. Where cargo finds nothing to
 # do, it leaves the old time, and make would ask it again.
