@@ -58,6 +58,11 @@ fn matches(wanted: &str, name: &str) -> bool {
 }
 
 /// What is built, and what git keeps, is no part of the repository.
+fn made(name: &str, path: &str) -> bool {
+    let in_crate = path.starts_with("crates/") && path.matches('/').count() == 2;
+    name == ".git" || name == "target" || (in_crate && name == "out")
+}
+
 fn read_folder(folder: &Path, path: &str, files: &mut BTreeMap<String, String>) -> io::Result<()> {
     for entry in fs::read_dir(folder)? {
         let entry = entry?;
@@ -68,7 +73,7 @@ fn read_folder(folder: &Path, path: &str, files: &mut BTreeMap<String, String>) 
             format!("{path}/{name}")
         };
         if entry.file_type()?.is_dir() {
-            if name != ".git" && name != "target" {
+            if !made(&name, &path) {
                 read_folder(&entry.path(), &path, files)?;
             }
         } else {
