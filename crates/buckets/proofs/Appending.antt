@@ -17,7 +17,7 @@ use Rattle.model.specs.declared.Refusal.TheVariants.{TooLong, NoRoom}
 use Rattle.model.specs.keys.Key.{Key}
 use Rattle.model.specs.records.Record.{joined}
 use Rattle.model.specs.tables.Tables.{all}
-use Rattle.model.specs.buckets.Bucket.{Entry, entry_size, entry_of, encode_bucket, sized_entry}
+use Rattle.model.specs.buckets.Bucket.{Entry, entry_size, encode_bucket, sized_entry}
 use Rattle.model.specs.calls.Refusals.{first, over}
 use Rattle.model.specs.calls.BucketCalls.{new_bucket, short_entry, needed_bytes, bucket_long, bucket_full, rename_causes, translate_bucket_causes}
 use Rattle.model.proofs.Lists.{rest, lent_on, over_append, length_over, all_append, le_or_lt}

@@ -45,7 +45,7 @@ ShortestUncommonPrefixAt p zero = cond (ltb 0 (length p) && ltb (get_or p 0 0) 2
 ShortestUncommonPrefixAt p (suc i) =
     cond (ltb (suc i) (length p) && ltb (get_or p (suc i) 0) 255) (raised_at p (suc i)) (ShortestUncommonPrefixAt p i)
 
--- TranslatePivots(pt, prefix, new_prefix, end, idx) and TranslateEdges(et, pt, idx): what stands from idx on, translated
+-- TranslatePivots(pt, prefix, newPrefix, end, idx) and TranslateEdges(et, pt, idx): what stands from idx on, translated
 abbrev pub TranslatePivotsFrom : PivotTable → Key → Key → Element → ℕ → PivotTable
 TranslatePivotsFrom pt p q end idx = TranslatePivots (drop idx pt) p q end
 
@@ -57,11 +57,11 @@ pub record TBucket : Type 0 where
   pub b : Bucket
   pub idxs : List ℕ
 
--- TranslateBucketInternal(bucket, prefix, new_prefix, idx): the entries from idx on
+-- TranslateBucketInternal(bucket, prefix, newPrefix, idx): the entries from idx on
 abbrev pub TranslateBucketInternal : Bucket → Key → Key → ℕ → TBucket
 TranslateBucketInternal bucket p q idx =
     record { b = TranslateBucket (drop idx bucket) p q; idxs = kept_from idx (drop idx bucket) p }
 
--- TranslateBucketSimple(bucket, prefix, new_prefix, i): the first i entries
+-- TranslateBucketSimple(bucket, prefix, newPrefix, i): the first i entries
 abbrev pub TranslateBucketSimple : Bucket → Key → Key → ℕ → Bucket
 TranslateBucketSimple bucket p q i = TranslateBucket (take i bucket) p q

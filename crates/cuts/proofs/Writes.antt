@@ -15,7 +15,7 @@ use Rattle.model.specs.records.Record.{elements, record_of, encode_edge, encode_
 use Rattle.model.specs.inner.Written.{clipped}
 use Rattle.model.specs.tables.Tables.{all, short_edge}
 use Rattle.model.specs.cuts.Sides.{inside, cutoff}
-use Rattle.model.specs.calls.Refusals.{outcome, first, answer, leaves}
+use Rattle.model.specs.calls.Refusals.{outcome, first, answer}
 use Rattle.model.specs.calls.CutCalls.{cut_pivots, cut_edges, write_causes}
 use Rattle.model.specs.calls.TableCalls.{edge_slot_causes}
 use Rattle.model.proofs.Lists.{rest, over_all, clipped_all}

@@ -14,7 +14,7 @@ use mir.Syntax.{w64}
 use mir.Val.{to_z, of_z}
 use Rattle.model.specs.declared.Reading.{Reading}
 use Rattle.model.specs.declared.Reading.TheVariants as reads
-use Rattle.model.specs.keys.Order.{key, lt, cmp}
+use Rattle.model.specs.keys.Order.{key, lt}
 use Rattle.model.specs.records.Record.{record_size, max_mark, length_field, reading, key_reading, element_reading, element, key_bytes}
 use Rattle.model.specs.inner.Places.{entry_at}
 use Rattle.model.specs.buckets.Bucket.{Entry, entry_size, entry_record, entry_of, entry_bytes, entry_bytes_by, entries}

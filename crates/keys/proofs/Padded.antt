@@ -17,7 +17,7 @@ use mir.Facts.{to_z-of_z}
 use Rattle.model.specs.declared.Reading.{Reading}
 use Rattle.model.specs.declared.Reading.TheVariants as reads
 use Rattle.model.specs.keys.Key.{max_len}
-use Rattle.model.specs.keys.Order.{Element, key, max, lte, lt, cmp}
+use Rattle.model.specs.keys.Order.{Element, key, lte, lt, cmp}
 use Rattle.model.specs.records.Record.{max_mark, length_field, all_zero, reading, element_reading, key_bytes, element}
 use Rattle.model.proofs.Lists.{rest}
 use Rattle.model.proofs.keys.Parts.{first_decides, rest_decides, padded_decides, length_decides}

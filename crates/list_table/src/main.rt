@@ -11,7 +11,7 @@ use std::io::{self, Read, Write};
 // One byte more than the largest table has, by which a longer input shows.
 const INPUT_SIZE: usize = 2 + (MAX_PIVOTS + (MAX_PIVOTS - 1)) * RECORD_SIZE + 1;
 
-// As many bytes as the list of any input has at most, by the law list-most.
+// As many bytes as the list of any input has at most, by the law list_most.
 const TEXT_SIZE: usize = 32715;
 
 // What was read: so many bytes, or a read failed.

@@ -1,13 +1,13 @@
 -- One pass over pivots: what is known of the whole table by what is left of it.
 use mathlib.Core.Path.{◌≡◌, refl, sym, ◌∙◌}
-use mathlib.Core.Bool.{Bool, true, false, cond, not, ◌&&◌, ◌||◌, and-true, and_assoc}
-use mathlib.Core.List.{List, [], ◌∷◌}
+use mathlib.Core.Bool.{Bool, true, false, not, ◌&&◌, and-true, and_assoc}
+use mathlib.Core.List.{List, []}
 use Prim.Native.Nat.{ℕ, suc, ◌+◌, ◌/◌, ◌%◌, ◌≤◌, ◌<◌}
 use native.Mathlib.Numerals.{add-one}
 use native.Mathlib.Omega.{arith}
 use borrow.Author.Tests.{eqb-true, eqb-false, ne_eqb, leb-true, not-true, not-false}
 use lib.Dec.{eqb, leb}
-use lib.ListN.{length, drop, get_or, length-drop, drop_of_length-le}
+use lib.ListN.{length, drop, get_or, drop_of_length-le}
 use lib.Seq.{drop-cons}
 use mir.Syntax.{w64}
 use mir.Val.{Fits, to_z, of_z}
@@ -18,8 +18,7 @@ use Rattle.model.specs.declared.Reading.TheVariants as reads
 use Rattle.model.specs.declared.Refusal.TheVariants.{Malformed, Unsorted}
 use Rattle.model.specs.declared.Answer.{Answer}
 use Rattle.model.specs.declared.Answer.TheVariants.{Value, Refused}
-use Rattle.model.specs.keys.Key.{is_nil}
-use Rattle.model.specs.keys.Order.{Element, max, lt, cmp}
+use Rattle.model.specs.keys.Order.{max, lt}
 use Rattle.model.specs.records.Record.{record_size, reading, allowed, key_reading, element_reading, records, element, elements}
 use Rattle.model.specs.inner.Places.{record_at}
 use Rattle.model.specs.tables.Tables.{PivotTable, min_pivots, max_pivots, pivot_at, rises_from, IsStrictlySorted}

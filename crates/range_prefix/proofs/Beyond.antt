@@ -1,17 +1,15 @@
 -- The range prefix by the common run and what follows it.
-use mathlib.Core.Path.{◌≡◌, refl, sym, ap, ◌∙◌}
+use mathlib.Core.Path.{◌≡◌, refl, sym}
 use mathlib.Core.Logic.{⊎_elim}
 use mathlib.Core.Bool.{Bool, true, false, cond, not, ◌&&◌, not-not}
 use mathlib.Core.List.{List, [], ◌∷◌}
-use Prim.Native.Nat.{ℕ, suc, ◌+◌, ◌-◌, ◌≤◌, ◌<◌, ◌^◌}
+use Prim.Native.Nat.{ℕ, suc, ◌+◌, ◌-◌, ◌≤◌, ◌<◌}
 use native.Mathlib.Omega.{arith}
-use borrow.Author.Tests.{eqb-true, eq-eqb, ne_eqb, not-true, not-false}
+use borrow.Author.Tests.{eq-eqb, ne_eqb, not-true, not-false}
 use lib.Dec.{eqb}
-use lib.ListN.{length, take, drop, get_or, drop_of_length-le, length-drop}
-use mir.Val.{Fits}
-use mir.Syntax.{w64}
+use lib.ListN.{length, take, drop, get_or, drop_of_length-le}
 use Rattle.model.specs.keys.Key.{Key, is_nil, common_run}
-use Rattle.model.specs.keys.Order.{key, max}
+use Rattle.model.specs.keys.Order.{key}
 use Rattle.model.specs.records.Record.{length_field, key_bytes, element, max_mark}
 use Rattle.model.specs.ranges.RangePrefix.{lcpright, lcp, PivotLcp}
 use Rattle.model.proofs.Lists.{drop_step, rest, le_or_lt}

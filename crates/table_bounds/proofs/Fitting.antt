@@ -1,18 +1,18 @@
 -- A key at a place between two pivots.
-use mathlib.Core.Path.{◌≡◌, refl, sym, ap, ◌∙◌}
+use mathlib.Core.Path.{◌≡◌, sym, ◌∙◌}
 use mathlib.Core.Bool.{Bool, true, false, not, ◌||◌, true≢false}
 use mathlib.Core.List.{List}
 use mathlib.Core.Logic.{⊎_elim}
 use Prim.Native.Nat.{ℕ, ◌-◌, ◌/◌, ◌≤◌, ◌<◌}
 use native.Mathlib.Omega.{arith}
-use borrow.Author.Tests.{eq-eqb, ne_eqb, le-leb, lt-leb, not-true, not-false}
+use borrow.Author.Tests.{ne_eqb, le-leb, lt-leb, not-true, not-false}
 use lib.Dec.{eqb, leb}
 use lib.ListN.{length}
 use Rattle.model.specs.keys.Key.{Key}
-use Rattle.model.specs.keys.Order.{Element, key, lte, lt, passes}
+use Rattle.model.specs.keys.Order.{key, lt, passes}
 use Rattle.model.specs.records.Record.{record_size, element, elements}
 use Rattle.model.specs.inner.Places.{record_at}
-use Rattle.model.specs.tables.Tables.{PivotTable, pivot_at, WFPivots, PivotInsertable}
+use Rattle.model.specs.tables.Tables.{pivot_at, WFPivots, PivotInsertable}
 use Rattle.model.proofs.Lists.{le_or_lt}
 use Rattle.model.proofs.keys.Order.{refuted}
 use Rattle.model.proofs.tables.Insertable.{Gap, gap_insertable, insertable_gap}

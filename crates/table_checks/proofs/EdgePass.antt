@@ -1,18 +1,18 @@
 -- The passes over edges: what is known of all of them by what is left.
-use mathlib.Core.Path.{◌≡◌, refl, sym, ap, ◌∙◌}
-use mathlib.Core.Bool.{Bool, true, false, cond, not, ◌&&◌}
+use mathlib.Core.Path.{◌≡◌, refl, sym, ◌∙◌}
+use mathlib.Core.Bool.{Bool, true, false, not, ◌&&◌}
 use mathlib.Core.List.{List, [], ◌∷◌}
-use Prim.Native.Nat.{ℕ, zero, suc, ◌+◌, ◌/◌, ◌≤◌, ◌<◌}
+use Prim.Native.Nat.{ℕ, suc, ◌+◌, ◌/◌, ◌≤◌, ◌<◌}
 use native.Mathlib.Numerals.{add-one}
 use native.Mathlib.Omega.{arith}
 use borrow.Author.Tests.{not-true, not-false, eq-eqb, ne_eqb}
-use lib.ListN.{length, drop, get_or, drop_of_length-le}
+use lib.ListN.{length, drop, drop_of_length-le}
 use lib.Seq.{drop-cons}
 use Rattle.model.specs.declared.EdgeKind.{EdgeKind}
 use Rattle.model.specs.declared.EdgeKind.TheVariants as kinds
-use Rattle.model.specs.keys.Key.{Key, is_nil}
-use Rattle.model.specs.keys.Order.{Element, max}
-use Rattle.model.specs.records.Record.{Edge, no_edge, record_size, reading, edge_reading, records, element, edge_of, elements, edges}
+use Rattle.model.specs.keys.Key.{is_nil}
+use Rattle.model.specs.keys.Order.{max}
+use Rattle.model.specs.records.Record.{no_edge, reading, edge_reading, records, element, edge_of, elements, edges}
 use Rattle.model.specs.inner.EdgeKinds.{edge_kind}
 use Rattle.model.specs.inner.Places.{record_at}
 use Rattle.model.specs.ranges.RangePrefix.{PivotLcp}

@@ -1,15 +1,14 @@
 -- Causes 1 to 3 of the pivots with those of the edges, and then cause 4.
 use mathlib.Core.Path.{◌≡◌, refl, sym, ap, ◌∙◌}
 use mathlib.Core.Bool.{Bool, true, false, not, ◌||◌}
-use mathlib.Core.List.{List, [], ◌∷◌}
+use mathlib.Core.List.{List, []}
 use Prim.Native.Nat.{ℕ}
-use borrow.Author.Tests.{not-true, not-false}
 use Rattle.model.specs.declared.Refusal.{Refusal}
 use Rattle.model.specs.declared.Refusal.TheVariants.{Shape, EmptyPrefix}
 use Rattle.model.specs.declared.Answer.{Answer}
 use Rattle.model.specs.declared.Answer.TheVariants.{Value, Refused}
 use Rattle.model.specs.records.Record.{records}
-use Rattle.model.specs.calls.Refusals.{◌⇒◌, outcome, answer}
+use Rattle.model.specs.calls.Refusals.{answer}
 use Rattle.model.specs.calls.TableCalls.{not_pivot_count, not_edge_count, edges_read, edges_stand, pivot_causes, table_causes}
 use Rattle.model.proofs.calls.Refusals.{here, later, done, handed_on-first, call_passed_first, value_is}
 

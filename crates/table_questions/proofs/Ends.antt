@@ -1,12 +1,12 @@
 -- The questions that the first and the last pivot answer.
-use mathlib.Core.Path.{◌≡◌, refl, sym, ap, ◌∙◌}
-use mathlib.Core.Bool.{Bool, true, false, cond, not, ◌&&◌, ◌||◌, not-not}
+use mathlib.Core.Path.{◌≡◌, refl}
+use mathlib.Core.Bool.{Bool, true, false, cond, not, ◌||◌, not-not}
 use mathlib.Core.List.{List, [], ◌∷◌}
 use Prim.Native.Nat.{ℕ, ◌-◌, ◌/◌, ◌≤◌, ◌<◌}
 use native.Mathlib.Omega.{arith}
 use borrow.Author.Tests.{lt-ltb, le-ltb}
 use lib.Dec.{eqb}
-use lib.ListN.{length, take}
+use lib.ListN.{length}
 use Rattle.model.specs.declared.Refusal.TheVariants.{NotBelow}
 use Rattle.model.specs.declared.Refusal.{Refusal}
 use Rattle.model.specs.declared.Answer.{Answer}
@@ -14,10 +14,10 @@ use Rattle.model.specs.declared.Answer.TheVariants as answers
 use Rattle.model.specs.declared.Decided.{Decided}
 use Rattle.model.specs.declared.Decided.TheVariants.{Refused}
 use Rattle.model.specs.keys.Key.{Key, too_long}
-use Rattle.model.specs.keys.Order.{Element, key, max, lte, lte_key, lt, same, passes}
+use Rattle.model.specs.keys.Order.{Element, key, max, lte, lte_key, lt, passes}
 use Rattle.model.specs.records.Record.{max_mark, length_field, key_bytes, reading, element_reading, element, elements}
 use Rattle.model.specs.inner.Places.{record_at}
-use Rattle.model.specs.tables.Tables.{PivotTable, pivot_at, last_pivot, WFPivots, BoundedKey, ValidLeftCutOffKey, ContainsAllKeys, ContainsRange}
+use Rattle.model.specs.tables.Tables.{pivot_at, last_pivot, WFPivots, ContainsAllKeys, ContainsRange}
 use Rattle.model.specs.calls.Refusals.{◌⇒◌, yes_or_no, answer, decision}
 use Rattle.model.specs.calls.KeyCalls.{not_record, not_element}
 use Rattle.model.specs.calls.TableCalls.{pivot_causes, contains_range_answer}

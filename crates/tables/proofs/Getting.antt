@@ -1,6 +1,6 @@
 -- The key at a place of a table.
-use mathlib.Core.Path.{◌≡◌, refl, sym, ap, ◌∙◌}
-use mathlib.Core.Bool.{Bool, true, false, cond, not, ◌&&◌, false≢true}
+use mathlib.Core.Path.{◌≡◌, refl, ◌∙◌}
+use mathlib.Core.Bool.{Bool, true, false, cond, ◌&&◌, false≢true}
 use mathlib.Core.List.{List, [], ◌∷◌}
 use mathlib.Core.Option.{none}
 use Prim.Native.Nat.{ℕ, ◌/◌, ◌≤◌, ◌<◌}
@@ -11,10 +11,10 @@ use lib.ListN.{length}
 use Rattle.model.specs.declared.Refusal.TheVariants.{NoSuchSlot}
 use Rattle.model.specs.declared.Answer.{Answer}
 use Rattle.model.specs.declared.Answer.TheVariants.{Value, Refused}
-use Rattle.model.specs.keys.Order.{Element, key, max, is_key}
+use Rattle.model.specs.keys.Order.{key, max, is_key}
 use Rattle.model.specs.records.Record.{max_mark, length_field, key_bytes, element, elements}
 use Rattle.model.specs.inner.Places.{record_at}
-use Rattle.model.specs.tables.Tables.{PivotTable, pivot_at, key_of, GetKey}
+use Rattle.model.specs.tables.Tables.{pivot_at, key_of, GetKey}
 use Rattle.model.specs.calls.Refusals.{◌⇒◌, first, answer, part}
 use Rattle.model.specs.calls.TableCalls.{no_key_at, pivot_causes, get_key_causes}
 use Rattle.model.proofs.calls.Refusals.{here, later, value_done, passed, accepted, none_here, none_after}

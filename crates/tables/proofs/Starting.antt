@@ -1,13 +1,12 @@
 -- The first table, written.
-use mathlib.Core.Path.{◌≡◌, refl, sym, ap, ◌∙◌}
-use mathlib.Core.List.{List, [], ◌∷◌, ◌++◌, append-nil}
-use Prim.Native.Nat.{ℕ, ◌+◌, ◌-◌, ◌≤◌, ◌<◌}
+use mathlib.Core.Path.{◌≡◌, ◌∙◌}
+use mathlib.Core.List.{List, [], ◌++◌, append-nil}
+use Prim.Native.Nat.{ℕ, ◌-◌, ◌≤◌}
 use native.Mathlib.Omega.{arith}
 use lib.ListN.{length, take, drop, length-append}
 use borrow.Rule.Slice.PartMut.{put_mid}
 use Rattle.model.specs.records.Record.{max_mark, record_of, encode, joined, encode_all}
 use Rattle.model.specs.inner.Written.{clipped}
-use Rattle.model.specs.keys.Order.{key, max}
 use Rattle.model.specs.tables.Tables.{InitPivotTable}
 use Rattle.model.specs.calls.Refusals.{over}
 use Rattle.model.specs.inner.Written.{into}

@@ -1,4 +1,3 @@
-use Prim.Native.Nat.{◌-◌}
 use borrow.Author.Rules.{rules}
 use Rattle.bucket_measures.proofs.Measuring.{measure_start, measure_end, measure_refused, kept_fits, measure_turn}
 use Rattle.bucket_measures.proofs.measure.Goals as goal

@@ -1,5 +1,4 @@
 use mathlib.Core.Path.{refl}
-use Prim.Native.Nat.{◌-◌}
 use borrow.Author.Rules.{rules}
 use Rattle.byte_scans.proofs.Bytes.{ff_turn, ff_other, ff_end}
 use Rattle.byte_scans.proofs.ff_run.Goals as goal

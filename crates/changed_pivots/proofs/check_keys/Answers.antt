@@ -1,6 +1,5 @@
 use mathlib.Core.Path.{ap}
 use mathlib.Core.Bool.{not}
-use Prim.Native.Nat.{◌-◌}
 use borrow.Author.Rules.{rules}
 use Rattle.changed_pivots.proofs.KeyPass.{pass_start, not_begun, pass_next, pass_long, pass_done}
 use Rattle.changed_pivots.proofs.check_keys.Goals as goal

@@ -13,7 +13,6 @@ use Rattle.model.specs.declared.Refusal.TheVariants.{TooLong, NoRoom, WrongIndex
 use Rattle.model.specs.declared.Answer.TheVariants as answers
 use Rattle.model.specs.declared.Decided.TheVariants as decided
 use Rattle.model.specs.keys.Key.{Key, too_long}
-use Rattle.model.specs.keys.Order.{key}
 use Rattle.model.specs.records.Record.{elements}
 use Rattle.model.specs.tables.Tables.{all, InitPivotTable, BoundedKey}
 use Rattle.model.specs.buckets.Bucket.{Entry, Bucket, entry_size, entries, TranslateBucket, TranslateBuckets}
@@ -37,13 +36,13 @@ use Rattle.contracts.proofs.ListsLent.{list_unsound, bucket_refused, fits_togeth
 use Rattle.contracts.proofs.ListsLeft.{list_translated, list_alone, list_passes}
 
 module _ (blist : List Bucket) (p q : Key) where
-  -- predicate TranslateBucketsWillFit(buckets: seq<Bucket>, prefix: Key, new_prefix: Key)
+  -- predicate TranslateBucketsWillFit(buckets: seq<Bucket>, prefix: Key, newPrefix: Key)
   -- of the buckets one after the other in one it is the same question
   pub translation_impl_321 : (TranslateBucketsWillFit blist p q → all short_entry (together (TranslateBuckets blist p q)) ≡ true)
       × (all short_entry (together (TranslateBuckets blist p q)) ≡ true → TranslateBucketsWillFit blist p q)
   translation_impl_321 = (fits_together p q blist, together_fits p q blist)
 
-  -- ensures b == TranslateBucketsWillFit(MutBucket.ILseq(mbuckets), prefix, new_prefix)
+  -- ensures b == TranslateBucketsWillFit(MutBucket.ILseq(mbuckets), prefix, newPrefix)
   -- asked of the bucket in which the list is: no kept key of any bucket passes 64 bytes, and n bytes hold the entries kept
   pub translation_impl_346 : (l x : List ℕ) → ILseq l x blist → first (rename_causes l p q) ≡ none → (n : ℕ)
       → will_fit_answer l p q n ≡ yes_or_no (all short_entry (together (TranslateBuckets blist p q)) && leb (length (together (TranslateBuckets blist p q)) * entry_size) n)
@@ -59,7 +58,7 @@ module _ (p l x : List ℕ) (old new : Key) (db dx : List ℕ) where
   pub translation_impl_345 : (InvLseq l x (length (slot_buckets (elements p) (entries l))) → ⊥) → RefusesAt answers.Refused (translate_index_causes p l x old new db dx) 7 WrongIndex (translate_index_answer p l x old new db dx)
   translation_impl_345 = list_unsound (too_long old || too_long new) false p l x _ _
 
-  -- ensures b ==> (forall i | 0 <= i < |mbuckets| :: WillFitInPkv(lseqs(mbuckets)[i], prefix, new_prefix))
+  -- ensures b ==> (forall i | 0 <= i < |mbuckets| :: WillFitInPkv(lseqs(mbuckets)[i], prefix, newPrefix))
   -- where it says yes of the bucket, and no cause before 8 applies, the list is translated, if there is room for the places
   pub translation_impl_347 : will_fit_answer l old new (length db) ≡ decided.Yes → first (given_causes (too_long old || too_long new) false p l x) ≡ none → length (elements p) * place_size ≤ length dx
       → (TranslateBucketsWillFit (slot_buckets (elements p) (entries l)) old new)
@@ -73,13 +72,13 @@ module _ (p l x : List ℕ) (old new : Key) (db dx : List ℕ) where
   pub translation_impl_431 : (InvLseq l x (length (slot_buckets (elements p) (entries l))) → ⊥) → RefusesAt answers.Refused (translate_index_causes p l x old new db dx) 7 WrongIndex (translate_index_answer p l x old new db dx)
   translation_impl_431 = translation_impl_345
 
-  -- requires forall i | 0 <= i < |blist| :: WillFitInPkv(blist[i], prefix, new_prefix)
+  -- requires forall i | 0 <= i < |blist| :: WillFitInPkv(blist[i], prefix, newPrefix)
   -- a kept key of one bucket would pass 64 bytes
   pub translation_impl_432 : (i : ℕ) → i < length (slot_buckets (elements p) (entries l)) → TranslateBucketWillFit (get_or (slot_buckets (elements p) (entries l)) i []) old new ≡ false
       → RefusesAt answers.Refused (translate_index_causes p l x old new db dx) 8 TooLong (translate_index_answer p l x old new db dx)
   translation_impl_432 = long_refused p l x old new db dx _ refl
 
-  -- requires forall i | 0 <= i < |blist| :: WillFitInPkv(blist[i], prefix, new_prefix)
+  -- requires forall i | 0 <= i < |blist| :: WillFitInPkv(blist[i], prefix, newPrefix)
   -- a destination would not hold the entries kept of all buckets, or the places
   pub translation_impl_432b : (length db < length (together (TranslateBuckets (slot_buckets (elements p) (entries l)) old new)) * entry_size) ⊎ (length dx < length (elements p) * place_size)
       → RefusesAt answers.Refused (translate_index_causes p l x old new db dx) 9 NoRoom (translate_index_answer p l x old new db dx)
@@ -90,13 +89,13 @@ module _ (p l x : List ℕ) (old new : Key) (db dx : List ℕ) where
   pub translation_impl_460 : Inv l ≡ false → Refuses answers.Refused 2 (translate_index_answer p l x old new db dx)
   translation_impl_460 = bucket_refused (too_long old || too_long new) false p l x _ _
 
-  -- requires WillFitInPkv(bucket, prefix, new_prefix)
+  -- requires WillFitInPkv(bucket, prefix, newPrefix)
   -- a kept key would pass 64 bytes
   pub translation_impl_461 : TranslateBucketWillFit (entries l) old new ≡ false → RefusesAt answers.Refused (translate_index_causes p l x old new db dx) 8 TooLong (translate_index_answer p l x old new db dx)
   unfolding given_causes entries_causes paired pivot_causes bucket_causes
   translation_impl_461 h = refuses_at _ _ (translate_index_causes p l x old new db dx) 8 _ _ _ refl (not_fails _ h)
 
-  -- requires WillFitInPkv(bucket, prefix, new_prefix)
+  -- requires WillFitInPkv(bucket, prefix, newPrefix)
   -- a destination would not hold the entries kept, or the places, one and the total
   pub translation_impl_461b : length (elements p) ≡ 2 → (length db < length (TranslateBucket (entries l) old new) * entry_size) ⊎ (length dx < 2 * place_size)
       → RefusesAt answers.Refused (translate_index_causes p l x old new db dx) 9 NoRoom (translate_index_answer p l x old new db dx)
@@ -112,7 +111,7 @@ module _ (p l x : List ℕ) (old new : Key) (l' x' : List ℕ) (t : TranslatesIn
   pub translation_impl_433 : InvLseq l' x' (length (slot_buckets (elements p) (entries l)))
   translation_impl_433 = list_passes p l x old new l' x' t
 
-  -- ensures MutBucket.ILseq(blist') == TranslateBuckets(MutBucket.ILseq(blist), prefix, new_prefix)
+  -- ensures MutBucket.ILseq(blist') == TranslateBuckets(MutBucket.ILseq(blist), prefix, newPrefix)
   pub translation_impl_434 : ILseq l' x' (TranslateBuckets (slot_buckets (elements p) (entries l)) old new)
   translation_impl_434 = list_translated p l x old new l' x' t
 
@@ -122,12 +121,12 @@ module _ (p l x : List ℕ) (old new : Key) (l' x' : List ℕ) (t : TranslatesIn
     pub translation_impl_462 : InvLseq l' x' 1
     translation_impl_462 = let e : length (slot_buckets (elements p) (entries l)) ≡ 1 = slots_count (elements p) (entries l) ∙ rw n (omega arith) in rw e at translation_impl_433
 
-    -- ensures MutBucket.ILseq(blist) == TranslateBuckets([bucket.I()], prefix, new_prefix)
+    -- ensures MutBucket.ILseq(blist) == TranslateBuckets([bucket.I()], prefix, newPrefix)
     -- by a table of two pivots
     pub translation_impl_463 : ILseq l' x' (TranslateBuckets (entries l ∷ []) old new)
     translation_impl_463 = rw (list_alone p l x old new l' x' t n) at translation_impl_434
 
--- ensures MutBucket.ILseq(blist) == TranslateBuckets([bucket.I()], prefix, new_prefix)
+-- ensures MutBucket.ILseq(blist) == TranslateBuckets([bucket.I()], prefix, newPrefix)
 -- every bucket is inside the first table, and is its one slot's
 pub translation_impl_463b : (b : Bucket) → (entries_inside InitPivotTable b ≡ true) × (slot_buckets InitPivotTable b ≡ b ∷ [])
 unfolding entries_inside

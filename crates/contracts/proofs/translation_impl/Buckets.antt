@@ -40,7 +40,7 @@ right_bucket : (wrong : Bool) (l : List ℕ) → first (bucket_causes wrong l) �
 right_bucket wrong l h = rw (bucket_wrong wrong l h) at h
 
 module _ (b : Bucket) (p q : Key) where
-  -- function {:opaque} TranslateBucketSimple(bucket: Bucket, prefix: Key, new_prefix: Key, i: nat) : (result: Bucket)
+  -- function {:opaque} TranslateBucketSimple(bucket: Bucket, prefix: Key, newPrefix: Key, i: nat) : (result: Bucket)
   pub translation_impl_285 : (TranslateBucketSimple b p q 0 ≡ [])
       × ((i : ℕ) (d : Entry) → 0 < i → i ≤ length b
       → TranslateBucketSimple b p q i
@@ -76,25 +76,25 @@ module _ (l : List ℕ) (p q : Key) (d : List ℕ) where
   pub translation_impl_390 : Inv l ≡ false → Refuses answers.Refused 2 (translate_bucket_answer l p q d)
   translation_impl_390 h = call_refuses answers.Refused _ 2 (translate_bucket_causes l p q d) (more_refused 2 (rename_causes l p q) _ (renaming_refused h))
 
-  -- ensures b == TranslateBucketWillFit(mbucket.I(), prefix, new_prefix)
+  -- ensures b == TranslateBucketWillFit(mbucket.I(), prefix, newPrefix)
   -- it says no exactly where the renaming, into so long a destination, is refused with 8 or 10
   pub translation_impl_330 : (will_fit_answer l p q (length d) ≡ decided.No
       → (translate_bucket_answer l p q d ≡ answers.Refused TooLong) ⊎ (translate_bucket_answer l p q d ≡ answers.Refused NoRoom))
       × ((translate_bucket_answer l p q d ≡ answers.Refused TooLong) ⊎ (translate_bucket_answer l p q d ≡ answers.Refused NoRoom) → will_fit_answer l p q (length d) ≡ decided.No)
   translation_impl_330 = (no_refused l p q d, ⊎_elim (eight_no l p q d) (ten_no l p q d))
 
-  -- ensures b ==> WillFitInPkv(mbucket, prefix, new_prefix)
+  -- ensures b ==> WillFitInPkv(mbucket, prefix, newPrefix)
   -- where it says yes, the renaming is accepted
   pub translation_impl_331 : will_fit_answer l p q (length d) ≡ decided.Yes → translate_bucket_answer l p q d ≡ answers.Value (length (TranslateBucket (entries l) p q))
   translation_impl_331 = yes_accepted l p q d
 
-  -- requires WillFitInPkv(mbucket, prefix, new_prefix);
+  -- requires WillFitInPkv(mbucket, prefix, newPrefix);
   -- a kept key would pass 64 bytes
   pub translation_impl_391 : TranslateBucketWillFit (entries l) p q ≡ false → RefusesAt answers.Refused (translate_bucket_causes l p q d) 2 TooLong (translate_bucket_answer l p q d)
   unfolding bucket_causes
   translation_impl_391 h = refuses_at _ _ (translate_bucket_causes l p q d) 2 _ _ _ refl (not_fails _ h)
 
-  -- requires WillFitInPkv(mbucket, prefix, new_prefix);
+  -- requires WillFitInPkv(mbucket, prefix, newPrefix);
   -- the destination would not hold the entries kept
   pub translation_impl_391b : length d < length (TranslateBucket (entries l) p q) * entry_size → RefusesAt answers.Refused (translate_bucket_causes l p q d) 3 NoRoom (translate_bucket_answer l p q d)
   unfolding bucket_causes needed_bytes
@@ -115,13 +115,13 @@ module _ (b : Bucket) (z : all sized_entry b ≡ true) (m : length b ≤ max_ent
   rename_lent : first (rename_causes (encode_bucket b) p q) ≡ none
   rename_lent = rw (not_too_long p s, not_too_long q t) (written_bucket b z m)
 
-  -- ensures b == TranslateBucketWillFit(mbucket.I(), prefix, new_prefix)
+  -- ensures b == TranslateBucketWillFit(mbucket.I(), prefix, newPrefix)
   -- no kept key passes 64 bytes, and n bytes hold the entries kept
   pub translation_impl_330b : (n : ℕ) → will_fit_answer (encode_bucket b) p q n ≡ yes_or_no (WillFitInPkv b p q n)
   unfolding needed_bytes
   translation_impl_330b n = accepted _ _ (rename_causes (encode_bucket b) p q) rename_lent ∙ rw (entries-encode_bucket b z, neither (all short_entry (TranslateBucket b p q)) (length (TranslateBucket b p q) * entry_size) n)
 
-  -- ensures mbucket'.I() == TranslateBucket(mbucket.I(), prefix, new_prefix)
+  -- ensures mbucket'.I() == TranslateBucket(mbucket.I(), prefix, newPrefix)
   pub translation_impl_393 : (d : List ℕ) → TranslateBucketWillFit b p q ≡ true → length (TranslateBucket b p q) * entry_size ≤ length d
       → (translate_bucket_answer (encode_bucket b) p q d ≡ answers.Value (length (TranslateBucket b p q)))
       × (translate_bucket_leaves (encode_bucket b) p q d ≡ over (encode_bucket (TranslateBucket b p q)) d)

@@ -67,19 +67,19 @@ module _ (p l x : List ℕ) (k : Key) (p' l' x' : List ℕ) (c : CutsIndex false
       rw (slots_count (elements p) (entries l)) (right_there (elements p) k (entries l) m.wf m.rises m.short m.cuts)
 
   module _ (old new : Key) (db dx : List ℕ) where
-    -- requires WillFitInPkv(bucket, prefix, new_prefix)
+    -- requires WillFitInPkv(bucket, prefix, newPrefix)
     -- a kept key of the cut bucket would pass 64 bytes
     pub translation_impl_475 : TranslateBucketWillFit (entries_from (key k) (slot_entries (elements p) (entries l) (CutoffForRight (elements p) k))) old new ≡ false
         → RefusesAt answers.Refused (translate_index_causes p' l' x' old new db dx) 8 TooLong (translate_index_answer p' l' x' old new db dx)
     translation_impl_475 = long_refused p' l' x' old new db dx _ right_list 0 (omega arith)
 
-    -- requires WillFitInPkv(bucket, prefix, new_prefix)
+    -- requires WillFitInPkv(bucket, prefix, newPrefix)
     -- a destination would not hold the entries kept of the cut bucket and of those after it, or the places
     pub translation_impl_475b : (length db < length (together (TranslateBuckets (keep_right (elements p) (entries l) k) old new)) * entry_size) ⊎ (length dx < length (elements p') * place_size)
         → RefusesAt answers.Refused (translate_index_causes p' l' x' old new db dx) 9 NoRoom (translate_index_answer p' l' x' old new db dx)
     translation_impl_475b = full_refused p' l' x' old new db dx _ right_list
 
-    -- requires forall i | 0 <= i < |blist| :: WillFitInPkv(blist[i], prefix, new_prefix)
+    -- requires forall i | 0 <= i < |blist| :: WillFitInPkv(blist[i], prefix, newPrefix)
     -- a kept key of a bucket after the cut one would pass 64 bytes
     pub translation_impl_476 : (i : ℕ) → CutoffForRight (elements p) k < i → i < length (slot_buckets (elements p) (entries l)) → TranslateBucketWillFit (get_or (slot_buckets (elements p) (entries l)) i []) old new ≡ false
         → RefusesAt answers.Refused (translate_index_causes p' l' x' old new db dx) 8 TooLong (translate_index_answer p' l' x' old new db dx)
@@ -90,7 +90,7 @@ module _ (p l x : List ℕ) (k : Key) (p' l' x' : List ℕ) (c : CutsIndex false
         let g : get_or (drop n (slot_buckets (elements p) (entries l))) j [] ≡ get_or (slot_buckets (elements p) (entries l)) i [] = get_or-drop n (slot_buckets (elements p) (entries l)) j [] ∙ rw e in
         long_refused p' l' x' old new db dx _ right_list (suc j) (omega (arith, length-drop n (slot_buckets (elements p) (entries l)))) (rw g f)
 
-    -- requires forall i | 0 <= i < |blist| :: WillFitInPkv(blist[i], prefix, new_prefix)
+    -- requires forall i | 0 <= i < |blist| :: WillFitInPkv(blist[i], prefix, newPrefix)
     -- else the translation is accepted
     pub translation_impl_476b : length old ≤ max_len → length new ≤ max_len → TranslateBucketsWillFit (keep_right (elements p) (entries l) k) old new
         → length (together (TranslateBuckets (keep_right (elements p) (entries l) k) old new)) * entry_size ≤ length db → length (elements p') * place_size ≤ length dx
@@ -104,7 +104,7 @@ module _ (p l x : List ℕ) (k : Key) (p' l' x' : List ℕ) (c : CutsIndex false
     pub translation_impl_479 : InvLseq l'' x'' (length (keep_right (elements p) (entries l) k))
     translation_impl_479 = rw right_list at (list_passes p' l' x' old new l'' x'' t)
 
-    -- ensures MutBucket.ILseq(blist') == TranslateBuckets([bucket.I()]+ MutBucket.ILseq(blist)[cRight+1..], prefix, new_prefix)
+    -- ensures MutBucket.ILseq(blist') == TranslateBuckets([bucket.I()]+ MutBucket.ILseq(blist)[cRight+1..], prefix, newPrefix)
     -- bucket is the cut slot's entries from the key on
     pub translation_impl_480 : ILseq l'' x''
         (TranslateBuckets (entries_from (key k) (slot_entries (elements p) (entries l) (CutoffForRight (elements p) k)) ∷ drop (CutoffForRight (elements p) k + 1) (slot_buckets (elements p) (entries l))) old new)
@@ -191,19 +191,19 @@ module _ (p l x : List ℕ) (r : Key) (p' l' x' : List ℕ) (c : CutsIndex true 
           length-drop (CutoffForRight (elements p) k + 1) (take (CutoffForLeft (elements p) r) (slot_buckets (elements p) (entries l))) ∙ rw n
 
       module _ (old new : Key) (db dx : List ℕ) where
-        -- requires WillFitInPkv(left, prefix, new_prefix)
+        -- requires WillFitInPkv(left, prefix, newPrefix)
         -- a kept key of the bucket cut on the right would pass 64 bytes
         pub translation_impl_504 : TranslateBucketWillFit (entries_from (key k) (slot_entries (elements p) (entries l) (CutoffForRight (elements p) k))) old new ≡ false
             → RefusesAt answers.Refused (translate_index_causes p'' l'' x'' old new db dx) 8 TooLong (translate_index_answer p'' l'' x'' old new db dx)
         translation_impl_504 = long_refused p'' l'' x'' old new db dx _ node_list 0 (omega arith)
 
-        -- requires WillFitInPkv(left, prefix, new_prefix)
+        -- requires WillFitInPkv(left, prefix, newPrefix)
         -- a destination would not hold the entries kept of both cut buckets and of those between them, or the places
         pub translation_impl_504b : (length db < length (together (TranslateBuckets (cut_node (elements p) (entries l) k r) old new)) * entry_size) ⊎ (length dx < length (elements p'') * place_size)
             → RefusesAt answers.Refused (translate_index_causes p'' l'' x'' old new db dx) 9 NoRoom (translate_index_answer p'' l'' x'' old new db dx)
         translation_impl_504b = full_refused p'' l'' x'' old new db dx _ node_list
 
-        -- requires WillFitInPkv(right, prefix, new_prefix)
+        -- requires WillFitInPkv(right, prefix, newPrefix)
         -- a kept key of the bucket cut on the left would pass 64 bytes
         pub translation_impl_505 : TranslateBucketWillFit (entries_below (key r) (slot_entries (elements p) (entries l) (CutoffForLeft (elements p) r))) old new ≡ false
             → RefusesAt answers.Refused (translate_index_causes p'' l'' x'' old new db dx) 8 TooLong (translate_index_answer p'' l'' x'' old new db dx)
@@ -213,7 +213,7 @@ module _ (p l x : List ℕ) (r : Key) (p' l' x' : List ℕ) (c : CutsIndex true 
             let e : get_or ((a ∷ middle) ++ (b ∷ [])) (length (a ∷ middle)) [] ≡ b = get_or_at (a ∷ middle) b [] [] (length (a ∷ middle)) refl in
             long_refused p'' l'' x'' old new db dx _ node_list (length (a ∷ middle)) (omega (arith, length-append (a ∷ middle) (b ∷ []))) (rw e f)
 
-        -- requires forall i | cRight as int+1 <= i < cLeft as int :: WillFitInPkv(blist[i], prefix, new_prefix)
+        -- requires forall i | cRight as int+1 <= i < cLeft as int :: WillFitInPkv(blist[i], prefix, newPrefix)
         -- a kept key of a bucket between them would pass 64 bytes
         pub translation_impl_506 : (i : ℕ) → CutoffForRight (elements p) k + 1 ≤ i → i < CutoffForLeft (elements p) r → TranslateBucketWillFit (get_or (slot_buckets (elements p) (entries l)) i []) old new ≡ false
             → RefusesAt answers.Refused (translate_index_causes p'' l'' x'' old new db dx) 8 TooLong (translate_index_answer p'' l'' x'' old new db dx)
@@ -229,7 +229,7 @@ module _ (p l x : List ℕ) (r : Key) (p' l' x' : List ℕ) (c : CutsIndex true 
             get_or-append (a ∷ middle) (b ∷ []) [] (suc j) (omega arith) ∙ get_or-drop n (take (CutoffForLeft (elements p) r) blist) j [] ∙ rw w (get_or-take (CutoffForLeft (elements p) r) blist i [] v) in
             long_refused p'' l'' x'' old new db dx _ node_list (suc j) (omega (arith, length-append (a ∷ middle) (b ∷ []))) (rw e f)
 
-        -- requires forall i | cRight as int+1 <= i < cLeft as int :: WillFitInPkv(blist[i], prefix, new_prefix)
+        -- requires forall i | cRight as int+1 <= i < cLeft as int :: WillFitInPkv(blist[i], prefix, newPrefix)
         -- else the translation is accepted
         pub translation_impl_506b : length old ≤ max_len → length new ≤ max_len → TranslateBucketsWillFit (cut_node (elements p) (entries l) k r) old new
             → length (together (TranslateBuckets (cut_node (elements p) (entries l) k r) old new)) * entry_size ≤ length db → length (elements p'') * place_size ≤ length dx
@@ -243,7 +243,7 @@ module _ (p l x : List ℕ) (r : Key) (p' l' x' : List ℕ) (c : CutsIndex true 
         pub translation_impl_508 : InvLseq m y (length (cut_node (elements p) (entries l) k r))
         translation_impl_508 = rw node_list at (list_passes p'' l'' x'' old new m y t)
 
-        -- ensures MutBucket.ILseq(blist') == TranslateBuckets([left.I()]+ MutBucket.ILseq(blist)[cRight+1..cLeft] + [right.I()], prefix, new_prefix)
+        -- ensures MutBucket.ILseq(blist') == TranslateBuckets([left.I()]+ MutBucket.ILseq(blist)[cRight+1..cLeft] + [right.I()], prefix, newPrefix)
         -- left is the one cut slot's entries from k on, right the other's below r
         pub translation_impl_509 : ILseq m y
             (TranslateBuckets

@@ -39,7 +39,7 @@ module _ (k p q : Key) (d : List ℕ) where
   pub translation_impl_218 : IsPrefix p k ≡ false → RefusesAt answers.Refused (change_prefix_causes k p q d) 1 NotPrefix (change_prefix_answer k p q d)
   translation_impl_218 h = refuses_at _ _ (change_prefix_causes k p q d) 1 _ _ _ refl (not_fails _ h)
 
-  -- ensures e' == TranslateElement(e, prefix, new_prefix)
+  -- ensures e' == TranslateElement(e, prefix, newPrefix)
   pub translation_impl_219 : length k ≤ max_len → length q ≤ max_len → IsPrefix p k ≡ true → length (change_prefix p q k) ≤ max_len → length (change_prefix p q k) ≤ length d
       → (TranslateElement p q (key k) ≡ key (change_prefix p q k))
       × (change_prefix_answer k p q d ≡ answers.Value (length (change_prefix p q k))) × (change_prefix_leaves k p q d ≡ over (change_prefix p q k) d)
@@ -48,7 +48,7 @@ module _ (k p q : Key) (d : List ℕ) where
       let n : first b ≡ none = only_sizes some none k p q d s c h ∙ size_lent (change_prefix p q k) d t r in
       (unfold TranslateElement in refl, accepted _ _ b n, accepted _ _ b n)
 
-  -- ensures e' == TranslateElement(e, prefix, new_prefix)
+  -- ensures e' == TranslateElement(e, prefix, newPrefix)
   -- where it passes 64 bytes, the call is refused
   pub translation_impl_219b : max_len < length (change_prefix p q k) → RefusesAt answers.Refused (change_prefix_causes k p q d) 2 TooLong (change_prefix_answer k p q d)
   translation_impl_219b h = refuses_at _ _ (change_prefix_causes k p q d) 2 _ _ _ refl (lt-ltb max_len (length (change_prefix p q k)) h)

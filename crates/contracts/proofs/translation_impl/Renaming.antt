@@ -70,12 +70,12 @@ module _ (v : List ℕ) (p q : Key) (n d : List ℕ) where
   unfolding pivot_causes
   translation_impl_247 h = refuses_at _ _ (pivots_causes v p q n d) 1 _ _ _ refl (or_left _ _ (or_right (too_long p || too_long q) _ (not_fails _ h)))
 
-  -- requires Keyspace.lt(TranslateElement(pt[|pt|-2], prefix, new_prefix), end)
+  -- requires Keyspace.lt(TranslateElement(pt[|pt|-2], prefix, newPrefix), end)
   pub translation_impl_248 : lt (TranslateElement p q (pivot_at (elements v) (length (elements v) - 2))) (element n) ≡ false → RefusesAt answers.Refused (pivots_causes v p q n d) 5 NotBelow (pivots_answer v p q n d)
   unfolding pivot_causes
   translation_impl_248 h = refuses_at _ _ (pivots_causes v p q n d) 5 _ _ _ refl (let i : NumBuckets (elements v) - 1 ≡ length (elements v) - 2 = omega arith in rw (i, h))
 
-  -- ensures pt' == TranslatePivots(pt, prefix, new_prefix, end, 0)
+  -- ensures pt' == TranslatePivots(pt, prefix, newPrefix, end, 0)
   -- where one of these pivots passes 64 bytes, the call is refused
   pub translation_impl_249b : all short_element (TranslatePivots (elements v) p q (element n)) ≡ false → RefusesAt answers.Refused (pivots_causes v p q n d) 4 TooLong (pivots_answer v p q n d)
   translation_impl_249b = new_pivots_refused v p q n d
@@ -95,7 +95,7 @@ module _ (pt : PivotTable) (w : WFPivots pt ≡ true) (m : length pt ≤ max_piv
       (pivots_lent pt w _ _ m o.one (rw (not_too_long p a, not_too_long q b, o.right)))
       ∙ rw (pivots_read_lem pt w, o.stands, begun_all pt p f, t, i, g, c, le-ltb _ _ room)
 
-  -- ensures pt' == TranslatePivots(pt, prefix, new_prefix, end, 0)
+  -- ensures pt' == TranslatePivots(pt, prefix, newPrefix, end, 0)
   pub translation_impl_249 : (pivots_answer (encode_all pt) p q (encode end) d ≡ answers.Value (length (TranslatePivotsFrom pt p q end 0)))
       × (pivots_leaves (encode_all pt) p q (encode end) d ≡ over (encode_all (TranslatePivotsFrom pt p q end 0)) d)
   translation_impl_249 =

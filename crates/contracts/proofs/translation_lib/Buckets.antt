@@ -19,7 +19,7 @@ use Rattle.contracts.proofs.translation_lib.Shared.{from_place}
 -- ---- from a place on
 
 module _ (bucket : Bucket) (p q : Key) (idx : ℕ) where
-  -- function TranslateBucketInternal(bucket: Bucket, prefix: Key, new_prefix: Key, idx: int) : (tbucket: TBucket)
+  -- function TranslateBucketInternal(bucket: Bucket, prefix: Key, newPrefix: Key, idx: int) : (tbucket: TBucket)
   -- the source's recursion; an entry is a key with its message, here its number
   pub translation_lib_360 : (idx ≡ length bucket → TranslateBucketInternal bucket p q idx ≡ record { b = []; idxs = [] })
       × ((e : Entry) → idx < length bucket → IsPrefix p (get_or bucket idx e).key ≡ true
@@ -36,7 +36,7 @@ module _ (bucket : Bucket) (p q : Key) (idx : ℕ) where
     λ e l h. rw (drop-cons bucket idx e l, h, add-one idx),
   )
 
-  -- ensures WFTBucket(bucket, tbucket, prefix, new_prefix, idx)
+  -- ensures WFTBucket(bucket, tbucket, prefix, newPrefix, idx)
   pub translation_lib_363 : idx ≤ length bucket → WFTBucket bucket (TranslateBucketInternal bucket p q idx).b (TranslateBucketInternal bucket p q idx).idxs p q idx
   translation_lib_363 l = translated_wft bucket p q idx l
 
@@ -48,7 +48,7 @@ module _ (bucket : Bucket) (p q : Key) (idx : ℕ) where
 -- ---- a bucket
 
 module _ (bucket : Bucket) (p q : Key) where
-  -- function TranslateBucket(bucket: Bucket, prefix: Key, new_prefix: Key) : (res : Bucket)
+  -- function TranslateBucket(bucket: Bucket, prefix: Key, newPrefix: Key) : (res : Bucket)
   pub translation_lib_387 : TranslateBucket bucket p q ≡ (TranslateBucketInternal bucket p q 0).b
   translation_lib_387 = refl
 
@@ -60,7 +60,7 @@ module _ (bucket : Bucket) (p q : Key) where
 -- ---- a list of buckets
 
 module _ (p q : Key) where
-  -- function TranslateBuckets(blist: BucketList, prefix: Key, new_prefix: Key) : (res : BucketList)
+  -- function TranslateBuckets(blist: BucketList, prefix: Key, newPrefix: Key) : (res : BucketList)
   -- the source's recursion, by the last bucket
   pub translation_lib_397 : (TranslateBuckets [] p q ≡ [])
       × ((blist : List Bucket) (last : Bucket) → TranslateBuckets (blist ++ (last ∷ [])) p q ≡ TranslateBuckets blist p q ++ (TranslateBucket last p q ∷ []))
@@ -73,7 +73,7 @@ module _ (blist : List Bucket) (p q : Key) where
   unfolding TranslateBuckets
   translation_lib_399 = length-map blist (λ (b : Bucket). TranslateBucket b p q)
 
-  -- && res[i] == TranslateBucket(blist[i], prefix, new_prefix)
+  -- && res[i] == TranslateBucket(blist[i], prefix, newPrefix)
   pub translation_lib_402 : (i : ℕ) → i < length (TranslateBuckets blist p q) → get_or (TranslateBuckets blist p q) i [] ≡ TranslateBucket (get_or blist i []) p q
   unfolding TranslateBuckets
   translation_lib_402 i l = get_d_map (λ (b : Bucket). TranslateBucket b p q) blist i [] [] (omega (arith, translation_lib_399))

@@ -60,7 +60,7 @@ pub translation_lib_183 : (s : PairState) (k : Key) (d : List ℕ) (pset : Prefi
     → RefusesAt answers.Refused (apply_causes s k d) 1 NotPrefix (apply_answer s k d)
 translation_lib_183 s k d pset e h = refuses_at _ _ (apply_causes s k d) 1 _ _ _ refl (not_fails (Begins (pair_of s) k) (rw e (unfold Begins in h)))
 
--- ensures pset.Some? ==> IsPrefix(pset.value.new_prefix, key')
+-- ensures pset.Some? ==> IsPrefix(pset.value.newPrefix, key')
 pub translation_lib_184 : (pset : PrefixSet) (k : Key) → IsPrefix pset.new_prefix (ApplyPrefixSet (some pset) k) ≡ true
 translation_lib_184 pset k = unfold Begins RevPrefixSet in applied_begins k (some pset)
 

@@ -41,7 +41,7 @@ module _ (p q k : Key) where
   unfolding TranslateElement TranslatePivotPairInternal
   translation_lib_247 = (element_short p q k, λ r d. left_refused k r p q d)
 
-  -- ensures IsPrefix(new_prefix, e'.e)
+  -- ensures IsPrefix(newPrefix, e'.e)
   pub translation_lib_248 : IsPrefix q (key_of (TranslateElement p q (key k))) ≡ true
   unfolding TranslateElement
   translation_lib_248 = change_begins p q k
@@ -87,7 +87,7 @@ unfolding translate_right
 right_lacks p q (key r) (other e) = rw e
 right_lacks p q max is_max = refl
 
--- function TranslatePivotPairInternal(left: Element, right: Element, prefix: Key, new_prefix: Key) : (p: (Element, Element))
+-- function TranslatePivotPairInternal(left: Element, right: Element, prefix: Key, newPrefix: Key) : (p: (Element, Element))
 -- its branches: right is max or lacks the prefix, or has it
 pub translation_lib_268 : (left right : Element) (p q : Key) → Bytes q
     → ((TranslatePivotPairInternal left right p q).left ≡ TranslateElement p q left)
@@ -123,7 +123,7 @@ pub translation_lib_276 : (l : Key) (right : Element) (p q : Key)
 unfolding TranslatePivotPairInternal translate_right
 translation_lib_276 l right p q = (right_short p q right, λ k e h. rw (e, h) (element_short p q k), λ r d. right_refused l r p q d)
 
--- && AllKeysInBetweenHasPrefix(left', right', new_prefix)
+-- && AllKeysInBetweenHasPrefix(left', right', newPrefix)
 pub translation_lib_277 : (l : Key) (right : Element) (p q : Key) → IsPrefix p l ≡ true → Bytes q
     → AllKeysInBetweenHasPrefix (TranslatePivotPairInternal (key l) right p q).left (TranslatePivotPairInternal (key l) right p q).right q
 translation_lib_277 l right p q = pair_shares p q l right

@@ -51,7 +51,7 @@ module _ (pt : PivotTable) (p q : Key) (end : Element) (idx : ℕ) (h : idx < Nu
   step : from ≡ TranslateElement p q (pivot_at pt idx) ∷ TranslatePivotsFrom pt p q end (idx + 1)
   step = rw (drop-cons pt idx max (omega arith), add-one idx) (pivots_first p q end (pivot_at pt idx) (drop (suc idx) pt) (omega (arith, length-drop (suc idx) pt)))
 
-  -- function TranslatePivots(pt: PivotTable, prefix: Key, new_prefix: Key, end: Element, idx: int): (pt' : PivotTable)
+  -- function TranslatePivots(pt: PivotTable, prefix: Key, newPrefix: Key, end: Element, idx: int): (pt' : PivotTable)
   -- the source's recursion
   pub translation_lib_297 : (idx + 1 ≡ NumBuckets pt → TranslatePivotsFrom pt p q end idx ≡ TranslateElement p q (pivot_at pt idx) ∷ end ∷ [])
       × (idx + 1 < NumBuckets pt → TranslatePivotsFrom pt p q end idx ≡ TranslateElement p q (pivot_at pt idx) ∷ TranslatePivotsFrom pt p q end (idx + 1))
@@ -87,11 +87,11 @@ module _ (pt : PivotTable) (p q : Key) (end : Element) (idx : ℕ) (h : idx < Nu
         let s : IsStrictlySorted from ≡ true = rw (pivots_from pt p q end idx h) (from_place IsStrictlySorted sorted_tail idx (TranslatePivots pt p q end) (pivots_rise pt p q end w f (rw z at e))) in
         (s, λ i l. rw (place i) (pivots_keys pt p q end w f (idx + i) (inside i l)), λ k. wf_of from s k (omega (arith, translation_lib_304, length-drop idx pt)))
 
-    -- && IsPrefix(new_prefix, pt'[i].e)
+    -- && IsPrefix(newPrefix, pt'[i].e)
     pub translation_lib_306 : (i : ℕ) → i < NumBuckets (TranslatePivotsFrom pt p q end idx) → IsPrefix q (key_of (pivot_at (TranslatePivotsFrom pt p q end idx) i)) ≡ true
     translation_lib_306 i l = rw (place i) (pivots_begin pt p q end w f (idx + i) (inside i l))
 
-    -- && pt[idx+i] == TranslateElement(pt'[i], new_prefix, prefix)
+    -- && pt[idx+i] == TranslateElement(pt'[i], newPrefix, prefix)
     pub translation_lib_307 : (i : ℕ) → i < NumBuckets (TranslatePivotsFrom pt p q end idx)
         → pivot_at pt (idx + i) ≡ TranslateElement q p (pivot_at (TranslatePivotsFrom pt p q end idx) i)
     translation_lib_307 i l = rw (place i) (sym (pivots_back pt p q end w f (idx + i) (inside i l)))

@@ -1,6 +1,5 @@
 use Rattle.entry_order.proofs.Rise.{rise_over, falls, rises_on}
 use mathlib.Core.Path.{refl}
-use Prim.Native.Nat.{◌-◌}
 use borrow.Author.Rules.{rules}
 use Rattle.entry_order.proofs.entries_rise.Goals as goal
 

@@ -1,4 +1,3 @@
-use Prim.Native.Nat.{◌-◌}
 use Rattle.filled_edges.proofs.Filled.{edges_start, edges_next, edges_end}
 use borrow.Author.Rules.{rules}
 use Rattle.filled_edges.proofs.write_edges.Goals as goal

@@ -1,4 +1,3 @@
-use Prim.Native.Nat.{◌-◌}
 use Rattle.index_writes.proofs.Places.{place_fits, places_start, places_next, places_end}
 use borrow.Author.Rules.{rules}
 use Rattle.index_writes.proofs.put_places.Goals as goal

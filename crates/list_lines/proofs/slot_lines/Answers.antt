@@ -1,4 +1,3 @@
-use Prim.Native.Nat.{◌-◌}
 use borrow.Author.Rules.{rules}
 use Rattle.list_lines.proofs.SlotLines.{lines_none, lines_none_written, lines_length, lines_written, lines_end_length, lines_end_written}
 use Rattle.list_lines.proofs.slot_lines.Goals as goal

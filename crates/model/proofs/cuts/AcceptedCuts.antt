@@ -7,7 +7,6 @@ use Prim.Native.Nat.{ℕ}
 use borrow.Author.Tests.{ltb-false, not-false}
 use lib.ListN.{length}
 use Rattle.model.specs.declared.Refusal.TheVariants.{OutOfRange, TooLong}
-use Rattle.model.specs.declared.Answer.TheVariants as answers
 use Rattle.model.specs.keys.Key.{Key, Bytes, max_len, too_long}
 use Rattle.model.specs.records.Record.{elements, edges, encode_all, encode_edges}
 use Rattle.model.specs.tables.Tables.{all, short_edge, WFPivots, BoundedKey}

@@ -1,10 +1,10 @@
 -- Two keys in two parts each: the first parts decide, or else the rest does. Two keys padded to one length: the padded ones decide, or else their lengths do.
-use mathlib.Core.Path.{◌≡◌, refl, sym, ap, ◌∙◌}
-use mathlib.Core.Bool.{Bool, true, false, cond, not, true≢false}
+use mathlib.Core.Path.{◌≡◌, refl, sym}
+use mathlib.Core.Bool.{Bool, true, false, cond, not}
 use mathlib.Core.List.{[], ◌∷◌}
 use Prim.Native.Nat.{ℕ, zero, suc, ◌≤◌}
 use native.Mathlib.Omega.{arith}
-use borrow.Author.Tests.{eqb-true, ltb-true, ltb-false, leb-true, leb-false, le-leb, lt-leb}
+use borrow.Author.Tests.{eqb-true, ltb-true, leb-true, leb-false, le-leb, lt-leb}
 use lib.Dec.{eqb, ltb, leb}
 use lib.IntN.{pos, negsuc}
 use lib.ListN.{length, take, drop}
@@ -12,7 +12,6 @@ use Rattle.model.specs.keys.Key.{Key}
 use Rattle.model.specs.keys.Order.{key, lte_key, lte, cmp}
 use Rattle.model.specs.records.Record.{all_zero}
 use Rattle.model.proofs.keys.Key.{both}
-use Rattle.model.proofs.keys.Order.{lte_key-same, lte_key-below, lte_key-above}
 
 -- p decides unless q holds too, and then r does
 abbrev unless_tie : Bool → Bool → Bool → Bool

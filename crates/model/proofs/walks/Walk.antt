@@ -1,5 +1,5 @@
 -- A walk's state stands for the walk that it was made of, and a step keeps what a walk is for: its pair takes its tag to its current key.
-use mathlib.Core.Path.{◌≡◌, refl, sym, ◌∙◌}
+use mathlib.Core.Path.{◌≡◌, refl, sym}
 use mathlib.Core.Bool.{Bool, true, false, ◌||◌, true≢false}
 use mathlib.Core.List.{List}
 use mathlib.Core.Option.{Option}
@@ -7,7 +7,7 @@ use Prim.Native.Nat.{ℕ, ◌≤◌}
 use native.Mathlib.Omega.{arith}
 use borrow.Author.Tests.{ltb-false}
 use lib.Dec.{ltb}
-use lib.ListN.{length, take, length-take}
+use lib.ListN.{take, length-take}
 use lib.Seq.{take-append_seam}
 use Rattle.model.specs.keys.Key.{Key, max_len, too_long}
 use Rattle.model.specs.keys.Order.{key, lte, same}

@@ -1,6 +1,6 @@
 -- A walk's record of 266 bytes: what is written is read back; and read and written back it is the record with zeros past its lengths.
-use mathlib.Core.Path.{◌≡◌, refl, sym, ap, ◌∙◌}
-use mathlib.Core.Bool.{true, false, ◌||◌, or-false}
+use mathlib.Core.Path.{◌≡◌, refl, ◌∙◌}
+use mathlib.Core.Bool.{false, or-false}
 use mathlib.Core.List.{List, [], ◌∷◌, ◌++◌, append_assoc}
 use Prim.Native.Nat.{ℕ, ◌+◌, ◌*◌, ◌/◌, ◌%◌, ◌≤◌, ◌<◌}
 use native.Mathlib.Omega.{arith}
@@ -11,12 +11,12 @@ use lib.Seq.{take_at, drop_at, get_or_at, drop-drop, get_or-append-add}
 use Rattle.model.specs.keys.Key.{Key, Bytes, max_len, too_long}
 use Rattle.model.specs.records.Record.{record_size, length_field, padded, record_of}
 use Rattle.model.specs.translation.PairRecord.{pair_size, encode_pair}
-use Rattle.model.specs.walks.Walk.{Walk, WalkState, wrong_walk, walk_of, walk_state}
-use Rattle.model.specs.walks.WalkRecord.{current_at, pair_place, count_at, walk_size, pair_part, walk_at, wrong_record, encode_walk}
+use Rattle.model.specs.walks.Walk.{Walk, walk_state}
+use Rattle.model.specs.walks.WalkRecord.{pair_place, count_at, walk_size, pair_part, walk_at, wrong_record, encode_walk}
 use Rattle.model.proofs.records.Record.{length_record}
 use Rattle.model.proofs.translation.PairState.{length_padded}
 use Rattle.model.proofs.translation.PairRecord.{two_bytes, length_pair, read_pair, flag_low}
-use Rattle.model.proofs.walks.Walk.{Short, short_right, state_walk}
+use Rattle.model.proofs.walks.Walk.{Short, short_right}
 
 -- ---- a key in 66 bytes, with l behind it
 

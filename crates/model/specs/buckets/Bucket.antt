@@ -86,7 +86,7 @@ unfoldable pub kept_from : ℕ → Bucket → Key → List ℕ
 kept_from i [] p = []
 kept_from i (e ∷ b) p = cond (IsPrefix p e.key) (i ∷ kept_from (suc i) b p) (kept_from (suc i) b p)
 
--- the ghost idxs of TranslateBucketInternal(bucket, prefix, new_prefix, 0)
+-- the ghost idxs of TranslateBucketInternal(bucket, prefix, newPrefix, 0)
 unfoldable pub kept_places : Bucket → Key → List ℕ
 kept_places b p = kept_from 0 b p
 

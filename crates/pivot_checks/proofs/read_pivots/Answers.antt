@@ -1,6 +1,5 @@
 use mathlib.Core.Path.{ap}
 use mathlib.Core.Bool.{not}
-use Prim.Native.Nat.{◌-◌}
 use Rattle.pivot_checks.proofs.PivotPass.{first_wrong, start, place_fits, next_fits, next_wrong, after_read, turn, falls, all_rise}
 use borrow.Author.Rules.{rules}
 use Rattle.pivot_checks.proofs.read_pivots.Goals as goal

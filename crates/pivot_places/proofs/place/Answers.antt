@@ -1,4 +1,3 @@
-use Prim.Native.Nat.{◌-◌}
 use native.Mathlib.Omega.{arith}
 use Rattle.pivot_places.proofs.Placing.{between_start, upper_half, lower_half, between_end}
 use borrow.Author.Rules.{rules}

@@ -1,4 +1,3 @@
-use Prim.Native.Nat.{◌-◌}
 use borrow.Author.Rules.{rules}
 use Rattle.scan.proofs.Scan.{common_turn, common_differ, common_end}
 use Rattle.scan.proofs.common_run.Goals as goal

@@ -1,4 +1,3 @@
-use Prim.Native.Nat.{◌-◌}
 use Rattle.scan.proofs.BigWords.{agreed_start, word_passed, word_below, word_above, words_agree}
 use borrow.Author.Rules.{rules}
 use Rattle.scan.proofs.order_words.Goals as goal

@@ -1,6 +1,5 @@
 use mathlib.Core.Path.{ap}
 use mathlib.Core.Bool.{not}
-use Prim.Native.Nat.{◌-◌}
 use borrow.Author.Rules.{rules}
 use Rattle.table_checks.proofs.EdgePass.{other_count, stand_start, stand_over, stands_not, stand_next}
 use Rattle.table_checks.proofs.edges_fit.Goals as goal

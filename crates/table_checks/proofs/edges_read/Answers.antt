@@ -1,4 +1,3 @@
-use Prim.Native.Nat.{◌-◌}
 use borrow.Author.Rules.{rules}
 use Rattle.table_checks.proofs.EdgePass.{edges_over, not_edge, next_edge}
 use Rattle.table_checks.proofs.edges_read.Goals as goal

@@ -1,5 +1,4 @@
 use mir.Facts.{to_z-of_z}
-use borrow.Author.Rules.{rules}
 use Rattle.upper_bound.proofs.Down.{walk, next_fits, down_turn}
 use Rattle.upper_bound.proofs.last_other.Goals as goal
 

@@ -1,6 +1,4 @@
 use lib.IntN.{pos, nat_abs, ◌+ℤ◌}
-use mir.Syntax.{w64}
-use mir.Val.{to_z}
 use Rattle.upper_bound.proofs.Down.{Down}
 use Rattle.upper_bound.proofs.last_other.Given as goal
 

@@ -1,4 +1,3 @@
-use Prim.Native.Nat.{◌-◌}
 use borrow.Author.Rules.{rules}
 use Rattle.buckets.proofs.Appending.{end_fits, put_start, put_inside, put_end, place_fits, fewer_left, put_checked, put_short, put_room, at_fits, put_turn}
 use Rattle.buckets.proofs.write.put_entries.Goals as goal

@@ -1,4 +1,3 @@
-use Prim.Native.Nat.{◌-◌}
 use native.Mathlib.Omega.{arith}
 use borrow.Author.Rules.{rules}
 use Rattle.copies.proofs.Copying.{copy_start, block_room, place_room, copy_on, last_room, last_place_lem, copy_last}

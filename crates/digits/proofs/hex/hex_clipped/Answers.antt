@@ -1,4 +1,3 @@
-use Prim.Native.Nat.{◌-◌}
 use Rattle.copies.proofs.Turns.{set_kept}
 use borrow.Author.Rules.{rules}
 use Rattle.digits.proofs.Digits.{clipped_turn, clipped_end}

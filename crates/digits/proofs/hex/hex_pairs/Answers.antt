@@ -1,4 +1,3 @@
-use Prim.Native.Nat.{◌-◌}
 use Rattle.copies.proofs.Turns.{set_kept}
 use borrow.Author.Rules.{rules}
 use Rattle.digits.proofs.Digits.{pair_room_lem, pair_turn, pair_end}

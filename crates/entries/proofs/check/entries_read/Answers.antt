@@ -1,4 +1,3 @@
-use Prim.Native.Nat.{◌-◌}
 use borrow.Author.Rules.{rules}
 use Rattle.entries.proofs.Checking.{read_over, not_read, next_read}
 use Rattle.entries.proofs.Places.{record_there}

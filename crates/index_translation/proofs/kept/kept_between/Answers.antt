@@ -1,4 +1,3 @@
-use Prim.Native.Nat.{◌-◌}
 use borrow.Author.Rules.{rules}
 use Rattle.index_translation.proofs.Counting.{count_start, count_end, count_fits, count_turn}
 use Rattle.index_translation.proofs.kept.kept_between.Goals as goal

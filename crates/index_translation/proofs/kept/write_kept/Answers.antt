@@ -1,4 +1,3 @@
-use Prim.Native.Nat.{◌-◌}
 use borrow.Author.Rules.{rules}
 use Rattle.index_translation.proofs.Placing.{place_start, place_end, place_after, place_inside, place_fits, place_narrow, place_turn}
 use Rattle.index_translation.proofs.kept.write_kept.Goals as goal

@@ -1,6 +1,5 @@
 use Rattle.indexes.proofs.Merging.{checked_rising, some_pivot, merge_start, merge_end, place_room, pivot_padded, still_below, place_most, place_fits, merge_next}
 use native.Mathlib.Nat.{le_of_lt}
-use Prim.Native.Nat.{◌-◌}
 use borrow.Author.Rules.{rules}
 use Rattle.indexes.proofs.merge.write_index.Goals as goal
 

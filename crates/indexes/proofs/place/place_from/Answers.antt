@@ -1,6 +1,5 @@
 use Rattle.indexes.proofs.Places.{below_over, stops_here, goes_on}
 use Rattle.indexes.proofs.Checks.{rising_read}
-use Prim.Native.Nat.{◌-◌}
 use borrow.Author.Rules.{rules}
 use Rattle.indexes.proofs.place.place_from.Goals as goal
 

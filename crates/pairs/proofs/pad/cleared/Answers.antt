@@ -1,6 +1,5 @@
 use borrow.Author.Rules.{rules}
 use Rattle.pairs.proofs.Padding.{partly_start, cleared_turn, cleared_end}
-use Prim.Native.Nat.{◌-◌}
 use Rattle.pairs.proofs.pad.cleared.Goals as goal
 
 ruleset own = (rules, partly_start, cleared_turn, cleared_end)

@@ -1,6 +1,5 @@
 use borrow.Author.Rules.{rules}
 use Rattle.pairs.proofs.Padding.{partly_start, partly_turn, partly_end}
-use Prim.Native.Nat.{◌-◌}
 use Rattle.pairs.proofs.pad.padded.Goals as goal
 
 pub loop-i-init : goal.loop-i-init

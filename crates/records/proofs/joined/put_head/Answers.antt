@@ -1,4 +1,3 @@
-use Prim.Native.Nat.{◌-◌}
 use Rattle.records.proofs.JoinedKeys.{head_start, head_turn, head_end, head_none}
 use borrow.Author.Rules.{rules}
 use Rattle.records.proofs.joined.put_head.Goals as goal

@@ -1,6 +1,5 @@
 use borrow.Author.Rules.{rules}
 use Rattle.records.proofs.Writing.{partly_start, partly_turn, partly_end}
-use Prim.Native.Nat.{◌-◌}
 use Rattle.records.proofs.write.record_of.Goals as goal
 
 pub loop-i-init : goal.loop-i-init

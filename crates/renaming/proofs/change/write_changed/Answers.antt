@@ -1,4 +1,3 @@
-use Prim.Native.Nat.{◌-◌}
 use Rattle.renaming.proofs.NewPivots.{one_pivot, changed_start, changed_next, changed_end}
 use borrow.Author.Rules.{rules}
 use Rattle.renaming.proofs.change.write_changed.Goals as goal

@@ -1,4 +1,3 @@
-use Prim.Native.Nat.{◌-◌}
 use borrow.Author.Rules.{rules}
 use Rattle.scan.proofs.Beginning.{begins_start, word_differs, begins_on, last_decides}
 use Rattle.scan.proofs.words.begins_by_words.Goals as goal

@@ -1,5 +1,4 @@
 use mathlib.Core.Path.{◌∙◌}
-use Prim.Native.Nat.{◌-◌}
 use borrow.Author.Rules.{rules}
 use Rattle.scan.proofs.ByWords.{word_agrees}
 use Rattle.scan.proofs.words.equal_words.Goals as goal

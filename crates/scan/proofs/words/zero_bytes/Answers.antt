@@ -1,4 +1,3 @@
-use Prim.Native.Nat.{◌-◌}
 use Rattle.scan.proofs.Scan.{scans}
 use borrow.Author.Rules.{rules}
 use Rattle.scan.proofs.words.zero_bytes.Goals as goal

@@ -1,4 +1,3 @@
-use Prim.Native.Nat.{◌-◌}
 use Rattle.scan.proofs.Zeros.{cleared_start, word_spoils, word_cleared, last_cleared}
 use borrow.Author.Rules.{rules}
 use Rattle.scan.proofs.words.zero_words.Goals as goal
