@@ -5,12 +5,16 @@ use crate::repository::Repository;
 use crate::table::spans;
 use std::collections::BTreeSet;
 
+/// Pages that tell what had which name before.
+const OF_BEFORE: [&str; 2] = ["docs/PORT.md", "docs/PORT-NAMES.md"];
+
 /// An exception is a piece of a span that may stand though nothing has that name, with the reason.
 pub fn check(repository: &Repository, exceptions: &[(&str, &str)]) -> Report {
     let known = Known::of(repository);
     let mut report = Report::default();
     let mut used = BTreeSet::new();
-    for (path, text) in repository.files().filter(|(path, _)| is_document(path)) {
+    let of_now = |path: &str| is_document(path) && !OF_BEFORE.contains(&path);
+    for (path, text) in repository.files().filter(|(path, _)| of_now(path)) {
         for (line, span) in spans(text) {
             let place = format!("{path}:{line}");
             let Some(span) = span else {

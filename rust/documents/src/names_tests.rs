@@ -199,3 +199,12 @@ fn fenced_blocks_are_not_looked_at() {
     let report = report("```text\n`nothing_like_it`\n```\n``is_key``\n", &[]);
     assert_eq!((report.passed, report.failures.len()), (1, 0));
 }
+
+#[test]
+fn pages_on_names_of_before_are_not_looked_at() {
+    let page = |path| [&FILES[..], &[(path, "`gone_now`\n")]].concat();
+    let failed = |path| check(&Repository::of(&page(path)), &[]).failures.len();
+    assert_eq!(failed("docs/PORT.md"), 0);
+    assert_eq!(failed("docs/PORT-NAMES.md"), 0);
+    assert_eq!(failed("docs/PORTS.md"), 1);
+}
