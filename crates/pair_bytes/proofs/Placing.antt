@@ -131,3 +131,6 @@ module _ (cs : List Cause) (o : Option PrefixSet) (d : List ℕ) (a : Answer) (h
   pub placed_written : (z : PairState) (w : List ℕ) → Fitting (pair_beside cs o) → z ≡ pair_beside cs o → w ≡ placed_leaves a z d
       → w ≡ pair_leaves (cs ++ pair_room d) o d
   placed_written z w f g e = e ∙ rw (h, g) (placed_leaves_lem cs (there_number o) o d f)
+
+-- putting a pair, by its tests
+pub ruleset putting = (put_crowded, put_old_long, put_new_long, put_written)

@@ -86,6 +86,7 @@ fn write_pair(pair: PrefixSet, dest: &mut [u8])
 
 // Writes a pair's record to the head of dest. Nothing is written where there is no room for it, or where a length passes
 // 64, which no result's does.
+#[tactic(auto, using(crate::proofs::Placing::putting))]
 pub fn put_pair(pair: PrefixSet, dest: &mut [u8])
     ensures { dest.new ≡ state_put (state pair) dest.old }
 {

@@ -41,6 +41,7 @@ fn mark(n: u16) -> Reading
 
 // The four ways in which a length field is read. The marks stand in one arm: the compiler tests ranges in their order, a
 // key's first, but single numbers before all ranges.
+#[tactic(auto, using(crate::proofs::Reading::ways))]
 pub fn field_reading(n: u16) -> Reading
     ensures { result ≡ field_reading n }
 {

@@ -8,7 +8,8 @@ use lib.Dec.{T, lit<, leb-zero}
 use lib.IntN.{ℤ, pos, pred_ℤ, nat_abs, ◌+ℤ◌, ◌-ℤ◌, -ℤ_one, -ℤ-+ℤ_cancel}
 use lib.Signed.{le_z, non_neg}
 use mir.Syntax.{w64}
-use mir.Val.{Fits, SFits}
+use mir.Val.{Fits, SFits, to_z, of_z}
+use mir.Facts.{to_z-of_z}
 use lib.ListN.{length, get_or}
 use Rattle.model.specs.keys.Key.{Key}
 use Rattle.upper_bound.specs.Walk.{up_to_other}
@@ -89,4 +90,8 @@ module _ (p : Key) (small : length p ≤ 64) where
           let e : up_to_other p at.0 ≡ up_to_other p (length p) = rw (eq-eqb (get_or p at.0 0) 255 (rw is at h)) at l.same in
           rw (is, -ℤ_one) (down_to at.0 (omega (arith, l.within)) e)
 
-pub ruleset walk = (count_fits, start_fits, down_start, down_end, index_sign, index_inside, index_fits, next_fits, next_less, down_found, down_turn)
+      -- the same of the index as it is kept
+      pub down_kept : get_or p (nat_abs i) 0 ≡ 255 → Down p (to_z w64 (of_z w64 (i -ℤ pos 1)))
+      down_kept h = rw (to_z-of_z next_fits) (down_turn h)
+
+pub ruleset walk = (count_fits, start_fits, down_start, down_end, index_sign, index_inside, index_fits, next_fits, next_less, down_found, down_kept)

@@ -13,6 +13,7 @@ ghost use Rattle.upper_bound.specs.Walk.{up_to_other};
 use model::{Answer, MAX_LEN, MAX_MARK, RECORD_SIZE, Refusal};
 
 // The place of the last byte that isn't FF, or -1.
+#[tactic(auto, using(crate::proofs::Down::walk))]
 fn last_other(p: &[u8]) -> i64
     requires { length p.now ≤ max_len }
     ensures { result ≡ pred_ℤ (pos (up_to_other p.now (length p.now))) }
