@@ -187,3 +187,6 @@ module _ (l : List ℕ) (p q : Key) (d₀ : List ℕ) (kept : ℕ) (h : first (t
                 ends = omega (arith, here_ends);
                 bytes = rw (y, c) (rw x at z ∙ (rw here_bytes at w.bytes));
               }
+
+-- writing the entries, one after the other
+pub ruleset appending = (end_fits, put_start, put_inside, put_end, place_fits, fewer_left, put_checked, put_short, put_room, at_fits, put_turn)

@@ -67,6 +67,7 @@ fn put_entry(entry: &[u8], prefix: &[u8], new_prefix: &[u8], dest: &mut [u8]) ->
 
 // Writes the translated bucket, of so many entries, to the head of dest: each entry to what the ones before it left of dest.
 // What follows the last that is kept isn't looked at.
+#[tactic(auto, using(crate::proofs::Appending::appending))]
 pub(crate) fn put_entries(
     bucket: &[u8],
     prefix: &[u8],
