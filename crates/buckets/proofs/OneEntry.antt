@@ -58,3 +58,6 @@ module _ (e : List ℕ) (p q : Key) (t : Bool) (g : t ≡ IsPrefix p (entry_of e
     -- its translation is what it leaves
     pub one_written : (d v : List ℕ) → v ≡ over (encode_entry (translate_entry p q (entry_of e))) d → v ≡ over (kept_bytes e p q) d
     one_written d v r = rw one_bytes r
+
+-- `put_entry`, by its tests
+pub ruleset one_entry = (record_first, none_long, none_written, one_short, one_long, one_room, one_written)

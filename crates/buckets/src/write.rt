@@ -53,6 +53,7 @@ fn put_kept(entry: &[u8], prefix: &[u8], new_prefix: &[u8], dest: &mut [u8])
 
 // Writes what an entry leaves to the head of dest: its translation where its key begins with the prefix, else nothing.
 // Answers the bytes written.
+#[tactic(auto, using(crate::proofs::OneEntry::one_entry))]
 fn put_entry(entry: &[u8], prefix: &[u8], new_prefix: &[u8], dest: &mut [u8]) -> usize
     requires { (CheckedEntry entry.now) × (all short_entry (kept_of entry.now prefix.now new_prefix.now) ≡ true) × (length (kept_bytes entry.now prefix.now new_prefix.now) ≤ length dest.old) }
     ensures count { result ≡ length (kept_bytes entry.now prefix.now new_prefix.now) }

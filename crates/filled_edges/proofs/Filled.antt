@@ -26,7 +26,7 @@ use Rattle.model.specs.calls.Refusals.{first, over, outcome}
 use Rattle.model.specs.calls.TableCalls.{table_causes}
 use Rattle.model.specs.calls.RenamingCalls.{new_edges, edges_causes}
 use Rattle.model.proofs.Lists.{all_at}
-use Rattle.model.proofs.calls.Refusals.{here, later, done, after}
+use Rattle.model.proofs.calls.Refusals.{here, later, done, after, accepted, handed_on-first}
 use Rattle.model.proofs.keys.Key.{prefix_is_take}
 use Rattle.model.proofs.ranges.RangePrefix.{prefix_of_left}
 use Rattle.model.proofs.records.Record.{length-encode_edge, absent_edge, prefix_edge}
@@ -148,3 +148,6 @@ module _ (p e : List ℕ) (h : first (table_causes false false p e) ≡ none) wh
   -- how many edges are answered
   pub counted : length e / 66 ≡ length (new_edges p e)
   counted = sym new_count
+
+-- `translate_edges`, by its tests
+pub ruleset filling = (accepted, handed_on-first, no_room_lem, room, counted)

@@ -53,6 +53,7 @@ fn write_edges(pivots: &[u8], edges: &[u8], dest: &mut [u8])
 
 // TranslateEdges: the edges with each absent one filled with its range's prefix, at the head of dest. Answers the
 // number of edges written. Refuses 1, 2, 3, 4 and 10.
+#[tactic(auto, using(crate::proofs::Filled::filling))]
 pub fn translate_edges(pivots: &[u8], edges: &[u8], dest: &mut [u8]) -> Answer
     ensures answered { result ≡ edges_answer pivots.now edges.now dest.old }
     ensures written { dest.new ≡ edges_leaves pivots.now edges.now dest.old }

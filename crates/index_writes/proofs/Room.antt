@@ -26,3 +26,6 @@ module _ {A : Type 0} (f : Refusal → A) (v z : A) (e y db dx : List ℕ) where
 -- what is written as far as there is room is written whole
 pub bucket_written : (e y db dx w : List ℕ) → length e ≤ length db → length y ≤ length dx → w ≡ into e db → w ≡ leaves (room_causes (length e) (length y) db dx) e db
 bucket_written e y db dx w h k g = both_hold (λ (_ : Refusal). db) _ w e y db dx h k (g ∙ into_over e db h)
+
+-- `write_side`, by its tests
+pub ruleset side_room = (bucket_lacks, index_lacks, both_hold, bucket_written)

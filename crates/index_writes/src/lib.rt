@@ -39,6 +39,7 @@ fn put_places(index: &[u8], n: usize, left: bool, dest: &mut [u8])
 
 // Cause 10; else the entries of one side, and places of the whole index as they are on that side, at the heads of the
 // destinations. Answers the number of entries.
+#[tactic(auto, using(crate::proofs::Room::side_room))]
 pub fn write_side(
     entries: &[u8],
     index: &[u8],

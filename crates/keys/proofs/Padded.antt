@@ -259,3 +259,6 @@ module _ (a b : List ℕ) (p : Padded a) (q : Padded b) where
 pub elements_told : (a b : List ℕ) (s t : Bool) (z : ℤ) → length a ≡ 66 → length b ≡ 66 → s ≡ element_reading (reading a) → not s ≡ false
     → t ≡ element_reading (reading b) → not t ≡ false → z ≡ padded_order a b → to_z w64 (of_z w64 z) ≡ cmp (element a) (element b)
 elements_told a b s t z l m e h f k g = padded_told a b (l, held a s e h) (m, held b t f k) z g
+
+-- `compare_padded`, by its tests
+pub ruleset padding = (left_mark, right_mark, words_differ, words_agree)

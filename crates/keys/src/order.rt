@@ -81,6 +81,7 @@ fn after_field(rec: &[u8]) -> &[u8]
 // The order of two records by their bytes: -1, 0 or 1. Of records that are read as elements it is the order of what they
 // stand for (law `padded_elements`): the zeros after a key let both be compared by words to their end, and where the words
 // agree, or one is max, the length fields decide.
+#[tactic(auto, using(crate::proofs::Padded::padding))]
 pub fn compare_padded(a: &[u8], b: &[u8]) -> i64
     ensures { result ≡ padded_order a.now b.now }
 {

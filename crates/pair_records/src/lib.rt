@@ -54,6 +54,7 @@ pub fn apply_pair(pair: &[u8], key: &[u8], dest: &mut [u8]) -> Answer
 
 // ComposePrefixSet: the pair that undoes b and then does a, at the head of dest. Answers 1 where it is there, 0 where it
 // is absent. Refuses 1, 2, 7, 8 and 10.
+#[tactic(auto, using(pair_bytes::proofs::Reading::wrong_flag, model::proofs::calls::Refusals::answering))]
 pub fn compose_pairs(a: &[u8], b: &[u8], dest: &mut [u8]) -> Answer
     ensures answered { result ≡ compose_pairs_answer a.now b.now dest.old }
     ensures written { dest.new ≡ compose_pairs_leaves a.now b.now dest.old }

@@ -32,6 +32,7 @@ fn begins_with(key: &[u8], p: &[u8], by_words: bool) -> bool
 
 // The causes of a change of prefix, by the room for the changed key; else its length. Apart from the writing, since the
 // compiler takes what follows so many tests in one function for rare, and calls it instead of putting it in place.
+#[tactic(auto, using(crate::proofs::Changing::changing, model::proofs::calls::Refusals::answering))]
 fn changed(key: &[u8], old: &[u8], new: &[u8], room: usize, by_words: bool) -> Answer
     ensures { result ≡ answer (changed_causes key.now old.now new.now room) (length (change_prefix old.now new.now key.now)) }
 {

@@ -154,3 +154,6 @@ module _ (l r : List ℕ) (t : Bool) (p : t ≡ eqb (length_field l) max_mark) w
     pub between_keys : (m : List ℕ) (v : Bool) → u ≡ false → m ≡ key_bytes r → v ≡ not (is_nil (lcp k m)) → v ≡ not (is_nil (PivotLcp (element l) (element r)))
     unfolding element PivotLcp
     between_keys m v g f w = rw (← p, ← q, h, g, ← e, ← f) w
+
+-- `has_key_prefix`, by its tests
+pub ruleset next_only = (no_left, no_right, alike, more_than_one, one_next)

@@ -48,6 +48,7 @@ pub fn range_prefix_len(left: &[u8], right: &[u8]) -> usize
 }
 
 // Whether the prefix of the range between two keys isn't empty. Their first bytes tell.
+#[tactic(auto, using(crate::proofs::Beyond::next_only))]
 fn has_key_prefix(left: &[u8], right: &[u8]) -> bool
     ensures { result ≡ not (is_nil (lcp left.now right.now)) }
 {

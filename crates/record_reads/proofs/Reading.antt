@@ -150,3 +150,6 @@ module _ (l : List ℕ) (i : ℕ) where
 -- none after the last one either
 pub past_after : (l : List ℕ) (i : ℕ) → length l / 66 ≤ i → [] ≡ record_at l (i + 1)
 past_after l i h = past_records l (i + 1) (omega arith)
+
+-- `edge_kind`, by its tests
+pub ruleset kinds = (kind_absent, kind_prefix)

@@ -29,6 +29,7 @@ pub fn length_field(rec: &[u8]) -> u16
 }
 
 // Which of the two marks a length field is.
+#[tactic(auto, using(crate::proofs::Reading::ways))]
 fn mark(n: u16) -> Reading
     requires { no_edge_mark ≤ n }
     ensures { result ≡ field_reading n }
@@ -148,6 +149,7 @@ pub fn key_bytes(rec: &[u8]) -> &[u8]
 }
 
 // What kind of edge a record stands for, by its length field.
+#[tactic(auto, using(crate::proofs::Reading::kinds))]
 pub fn edge_kind(rec: &[u8]) -> EdgeKind
     ensures { result ≡ edge_kind rec.now }
 {

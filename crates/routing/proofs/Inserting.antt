@@ -77,3 +77,6 @@ module _ (p : List ℕ) (k : Key) (n : ℕ) (wf : WFPivots (elements p) ≡ true
         strictly_in m =
             past Refused _ _ (later Refused _ _ _ TooManyPivots [] (le-ltb 64 (length (inserted_pivots p k)) (omega (arith, count)))
             (slot_done Refused (n - 1) _ (strictly_route (elements p) k wf (n - 1) slot)))
+
+-- `new_slot_of`, by its tests
+pub ruleset inserting = (below_all, a_pivot, above_all, full_table)

@@ -50,6 +50,7 @@ pub fn slot_with_edges(pivots: &[u8], edges: &[u8], k: &[u8], left: bool) -> Rou
 }
 
 // The slot that the key is inserted into, where n pivots are not above it. Causes 5, 11 and 12.
+#[tactic(auto, using(crate::proofs::Inserting::inserting))]
 fn new_slot_of(pivots: &[u8], k: &[u8], n: usize) -> Routed
     requires { (WFPivots (elements pivots.now) ≡ true) × (n ≡ last_place (passes false (key k.now)) (elements pivots.now)) }
     ensures { result ≡ routing ((not (ContainsRange (elements pivots.now) (key k.now) (key k.now)) ⇒ OutOfRange) ∷ (is_pivot (elements pivots.now) k.now ⇒ AlreadyPivot) ∷ (too_many_pivots (inserted_pivots pivots.now k.now) ⇒ TooManyPivots) ∷ []) (Route (elements pivots.now) k.now) }

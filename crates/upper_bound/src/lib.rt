@@ -54,6 +54,7 @@ fn put_upper(p: &[u8], dest: &mut [u8])
 
 // ShortestUncommonPrefix: the upper bound of a prefix, as one record at the head of dest. Answers 1.
 // Refuses 2 and 10.
+#[tactic(auto, using(model::proofs::calls::Refusals::answering))]
 pub fn shortest_uncommon_prefix(prefix: &[u8], dest: &mut [u8]) -> Answer
     ensures answered { result ≡ uncommon_prefix_answer prefix.now dest.old }
     ensures written { dest.new ≡ uncommon_prefix_leaves prefix.now dest.old }

@@ -12,12 +12,6 @@ returns-in_default-clause-answered c = search own
 pub returns-in_default-clause-written : goal.returns-in_default-clause-written
 returns-in_default-clause-written c = search own
 
-pub returns-then-dest-edges-clause-answered : goal.returns-then-dest-edges-clause-answered
-returns-then-dest-edges-clause-answered c = search own
-
-pub returns-then-dest-edges-clause-written : goal.returns-then-dest-edges-clause-written
-returns-then-dest-edges-clause-written c = search own
-
 pub write_edges-requires : goal.write_edges-requires
 write_edges-requires c = search own
 

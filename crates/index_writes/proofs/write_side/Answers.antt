@@ -14,15 +14,6 @@ returns-then-dest_bucket-entries-clause-bucket c = search own
 pub returns-then-dest_bucket-entries-clause-index : goal.returns-then-dest_bucket-entries-clause-index
 returns-then-dest_bucket-entries-clause-index c = search own
 
-pub returns-then-dest_index-index-clause-answered : goal.returns-then-dest_index-index-clause-answered
-returns-then-dest_index-index-clause-answered c = search own
-
-pub returns-then-dest_index-index-clause-bucket : goal.returns-then-dest_index-index-clause-bucket
-returns-then-dest_index-index-clause-bucket c = search own
-
-pub returns-then-dest_index-index-clause-index : goal.returns-then-dest_index-index-clause-index
-returns-then-dest_index-index-clause-index c = search own
-
 pub returns-clause-answered : goal.returns-clause-answered
 returns-clause-answered c = search own
 

@@ -18,12 +18,6 @@ returns-then-b-ne-PAIR_SIZE-clause-answered c = search own
 pub returns-then-b-ne-PAIR_SIZE-clause-written : goal.returns-then-b-ne-PAIR_SIZE-clause-written
 returns-then-b-ne-PAIR_SIZE-clause-written c = search own
 
-pub returns-then-a-gt1-clause-answered : goal.returns-then-a-gt1-clause-answered
-returns-then-a-gt1-clause-answered c = search own
-
-pub returns-then-a-gt1-clause-written : goal.returns-then-a-gt1-clause-written
-returns-then-a-gt1-clause-written c = search own
-
 pub returns-then-b-gt1-clause-answered : goal.returns-then-b-gt1-clause-answered
 returns-then-b-gt1-clause-answered c = search own
 

@@ -8,9 +8,6 @@ returns-then-key-gt-MAX_LEN c = search (changing, answering) depth 9
 pub returns-then-old-gt-MAX_LEN : goal.returns-then-old-gt-MAX_LEN
 returns-then-old-gt-MAX_LEN c = search (changing, answering) depth 9
 
-pub returns-then-new-gt-MAX_LEN : goal.returns-then-new-gt-MAX_LEN
-returns-then-new-gt-MAX_LEN c = search (changing, answering) depth 9
-
 pub returns-then-not-begins : goal.returns-then-not-begins
 returns-then-not-begins c = search (changing, answering) depth 9
 

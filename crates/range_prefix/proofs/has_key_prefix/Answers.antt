@@ -13,8 +13,5 @@ returns-then-right-eq0 c = search own
 pub returns-then-left-right : goal.returns-then-left-right
 returns-then-left-right c = search own
 
-pub returns-then-right-ne1 : goal.returns-then-right-ne1
-returns-then-right-ne1 c = search own
-
 pub returns : goal.returns
 returns c = search own

@@ -4,8 +4,5 @@ use Rattle.record_reads.proofs.mark.Goals as goal
 
 ruleset own = (rules, ways)
 
-pub returns-in-65534 : goal.returns-in-65534
-returns-in-65534 c = search own
-
 pub returns-in_default : goal.returns-in_default
 returns-in_default c = search own

@@ -1,4 +1,4 @@
-use Rattle.routing.proofs.Inserting.{below_all, a_pivot, above_all, full_table, strictly_in}
+use Rattle.routing.proofs.Inserting.{below_all, a_pivot, above_all, strictly_in}
 use borrow.Author.Rules.{rules}
 use Rattle.routing.proofs.new_slot_of.Goals as goal
 
@@ -12,12 +12,6 @@ returns-then-not-below c = search own
 
 pub returns-then-n-count : goal.returns-then-n-count
 returns-then-n-count c = search own
-
-pub returns-then-count-ge-MAX_PIVOTS : goal.returns-then-count-ge-MAX_PIVOTS
-returns-then-count-ge-MAX_PIVOTS c =
-    let last = c.record_at.ensures in
-    let below = c.passes-below.ensures in
-    full_table _ _ _ (search own) (search own) (search own) _ _ last below (search own) (search own) (search own)
 
 pub returns : goal.returns
 returns c =

@@ -8,12 +8,6 @@ returns-then-prefix-gt-MAX_LEN-clause-answered c = search answering
 pub returns-then-prefix-gt-MAX_LEN-clause-written : goal.returns-then-prefix-gt-MAX_LEN-clause-written
 returns-then-prefix-gt-MAX_LEN-clause-written c = search answering
 
-pub returns-then-dest-lt-RECORD_SIZE-clause-answered : goal.returns-then-dest-lt-RECORD_SIZE-clause-answered
-returns-then-dest-lt-RECORD_SIZE-clause-answered c = search answering
-
-pub returns-then-dest-lt-RECORD_SIZE-clause-written : goal.returns-then-dest-lt-RECORD_SIZE-clause-written
-returns-then-dest-lt-RECORD_SIZE-clause-written c = search answering
-
 pub returns-clause-answered : goal.returns-clause-answered
 returns-clause-answered c = search answering
 

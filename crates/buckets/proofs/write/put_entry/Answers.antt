@@ -5,12 +5,6 @@ use Rattle.buckets.proofs.write.put_entry.Goals as goal
 
 ruleset own = (rules, record_first, begins, none_long, none_written, one_short, one_long, one_room, one_written)
 
-pub returns-then-not-begins_with-clause-count : goal.returns-then-not-begins_with-clause-count
-returns-then-not-begins_with-clause-count c = search own
-
-pub returns-then-not-begins_with-clause-written : goal.returns-then-not-begins_with-clause-written
-returns-then-not-begins_with-clause-written c = search own
-
 pub put_kept-requires : goal.put_kept-requires
 put_kept-requires c = search own
 

@@ -4,9 +4,6 @@ use Rattle.keys.proofs.order.compare_padded.Goals as goal
 
 ruleset own = (rules, left_mark, right_mark, words_differ, words_agree)
 
-pub returns-then-x-gt64 : goal.returns-then-x-gt64
-returns-then-x-gt64 c = search own
-
 pub returns-then-y-gt64 : goal.returns-then-y-gt64
 returns-then-y-gt64 c = search own
 
