@@ -2,54 +2,55 @@
 #![tactic(auto)]
 
 ghost use Rattle.std.specs.Prelude.{◌≡◌};
-ghost use Rattle.model.specs.calls.Refusals.{answer_number, compared_number, told, told_order, decided_answer};
+ghost use Rattle.model.specs.calls.Refusals.{answer_number, told, decided_answer};
 
-use model::{Answer, Compared, Decided};
+use model::Refusal;
 
 // An answer, told by a number and through a pointer.
-pub fn tell(a: Answer, value: &mut u64) -> u32
+#[tactic(auto, using(crate::proofs::Rules::tell))]
+pub fn tell(a: Result<usize, Refusal>, value: &mut u64) -> u32
     ensures number { result ≡ answer_number a }
     ensures value { value.new ≡ told a value.old }
 {
     match a {
-        Answer::Value(n) => {
+        Ok(n) => {
             *value = n as u64;
             0
         }
-        Answer::Refused(r) => refusals::refusal_number(r),
+        Err(r) => u32::from(r),
     }
 }
 
-pub fn tell_order(c: Compared, order: &mut i64) -> u32
-    ensures number { result ≡ compared_number c }
-    ensures value { order.new ≡ told_order c order.old }
+// An answer that is an order: -1, 0 or 1 behind the pointer.
+#[tactic(auto, using(crate::proofs::Rules::tell_order))]
+pub fn tell_order(c: Result<i64, Refusal>, order: &mut i64) -> u32
+    ensures number { result ≡ answer_number c }
+    ensures value { order.new ≡ told c order.old }
 {
     match c {
-        Compared::Order(z) => {
+        Ok(z) => {
             *order = z;
             0
         }
-        Compared::Refused(r) => refusals::refusal_number(r),
+        Err(refusal) => u32::from(refusal),
     }
 }
 
 // The number alone.
-pub fn tell_number(a: Answer) -> u32
+#[tactic(auto, using(crate::proofs::Rules::tell_number))]
+pub fn tell_number(a: Result<usize, Refusal>) -> u32
     ensures { result ≡ answer_number a }
 {
     match a {
-        Answer::Value(_) => 0,
-        Answer::Refused(r) => refusals::refusal_number(r),
+        Ok(_) => 0,
+        Err(r) => u32::from(r),
     }
 }
 
 // Yes and no as 1 and 0.
-pub fn decided_answer(d: Decided) -> Answer
+#[tactic(auto, using(crate::proofs::Rules::decided_answer))]
+pub fn decided_answer(d: Result<bool, Refusal>) -> Result<usize, Refusal>
     ensures { result ≡ decided_answer d }
 {
-    match d {
-        Decided::Yes => Answer::Value(1),
-        Decided::No => Answer::Value(0),
-        Decided::Refused(r) => Answer::Refused(r),
-    }
+    Ok(usize::from(d?))
 }

@@ -1,4 +1,5 @@
 -- The causes of a renaming by what its steps answer: the check, and the measure.
+use Rattle.std.specs.Prelude.{Result, Ok, Err}
 use mathlib.Core.Path.{◌≡◌}
 use mathlib.Core.Bool.{Bool, false, ◌||◌}
 use mathlib.Core.List.{List, []}
@@ -7,8 +8,6 @@ use lib.Dec.{ltb}
 use lib.ListN.{length}
 use Rattle.model.specs.declared.Refusal.{Refusal}
 use Rattle.model.specs.declared.Refusal.TheVariants.{TooLong}
-use Rattle.model.specs.declared.Answer.{Answer}
-use Rattle.model.specs.declared.Answer.TheVariants.{Value, Refused}
 use Rattle.model.specs.keys.Key.{Key, too_long}
 use Rattle.model.specs.buckets.Bucket.{entry_size}
 use Rattle.model.specs.calls.Refusals.{outcome, answer}
@@ -18,16 +17,16 @@ use Rattle.bucket_measures.specs.Kept.{Good, long_kept}
 
 -- ---- the check
 
-module _ (l : List ℕ) (p q : Key) (t : Bool) (a : Answer) (e : t ≡ (too_long p || too_long q)) (f : a ≡ answer (bucket_causes t l) (length l / entry_size)) where
+module _ (l : List ℕ) (p q : Key) (t : Bool) (a : Result ℕ Refusal) (e : t ≡ (too_long p || too_long q)) (f : a ≡ answer (bucket_causes t l) (length l / entry_size)) where
   checked : a ≡ answer (rename_causes l p q) (length l / entry_size)
   checked = rw e at f
 
   -- it passes
-  pub check_good : (n : ℕ) → a ≡ Value n → Good l p q
+  pub check_good : (n : ℕ) → a ≡ Ok n → Good l p q
   check_good n h = accepted (rename_causes l p q) (length l / entry_size) a checked n h
 
   -- or its refusal is handed on
-  module _ {A : Type 0} (o : Refusal → A) (v x : A) (r : Refusal) (h : a ≡ Refused r) (g : x ≡ o r) where
+  module _ {A : Type 0} (o : Refusal → A) (v x : A) (r : Refusal) (h : a ≡ Err r) (g : x ≡ o r) where
     pub check_refused : x ≡ outcome o (rename_causes l p q) v
     check_refused = refused_by o v x (rename_causes l p q) r (refused (rename_causes l p q) _ a checked r h) g
 
@@ -37,7 +36,7 @@ module _ (l : List ℕ) (p q : Key) (t : Bool) (a : Answer) (e : t ≡ (too_long
 
 -- ---- the measure
 
-module _ (l : List ℕ) (p q : Key) (b : Answer) (f : b ≡ answer (long_kept (new_bucket l p q)) (length (new_bucket l p q))) (kept : ℕ) (k : b ≡ Value kept) where
+module _ (l : List ℕ) (p q : Key) (b : Result ℕ Refusal) (f : b ≡ answer (long_kept (new_bucket l p q)) (length (new_bucket l p q))) (kept : ℕ) (k : b ≡ Ok kept) where
   -- no kept entry is too long
   pub not_long : bucket_long l p q ≡ false
   not_long = none_here (bucket_long l p q) TooLong [] (accepted (long_kept (new_bucket l p q)) _ b f kept k)

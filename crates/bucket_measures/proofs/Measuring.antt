@@ -1,5 +1,6 @@
 -- The pass over entries that measures them: what is known of the renamed bucket by what is left of it.
-use mathlib.Core.Path.{◌≡◌, refl, ap, ◌∙◌}
+use Rattle.std.specs.Prelude.{Result, Ok, Err}
+use mathlib.Core.Path.{◌≡◌, refl, sym, ap, ◌∙◌}
 use mathlib.Core.Bool.{Bool, true, false, ◌&&◌}
 use mathlib.Core.List.{List, [], ◌∷◌, ◌++◌}
 use Prim.Native.Nat.{ℕ, suc, ◌+◌, ◌/◌, ◌≤◌, ◌<◌}
@@ -12,8 +13,6 @@ use mir.Syntax.{w64}
 use mir.Val.{Fits}
 use Rattle.model.specs.declared.Refusal.{Refusal}
 use Rattle.model.specs.declared.Refusal.TheVariants.{TooLong}
-use Rattle.model.specs.declared.Answer.{Answer}
-use Rattle.model.specs.declared.Answer.TheVariants.{Value, Refused}
 use Rattle.model.specs.keys.Key.{Key}
 use Rattle.model.specs.tables.Tables.{all}
 use Rattle.model.specs.buckets.Bucket.{Bucket, entry_size, entry_of, entry_bytes, entries, TranslateBucket}
@@ -66,14 +65,14 @@ module _ (l : List ℕ) (p q : Key) where
 
   module _ (i kept : ℕ) (w : Measured l p q i kept) where
     -- at the end the count is the answer
-    pub measure_end : length l / entry_size ≤ i → Value kept ≡ answer (long_kept (new_bucket l p q)) (length (new_bucket l p q))
+    pub measure_end : length l / entry_size ≤ i → Ok kept ≡ answer (long_kept (new_bucket l p q)) (length (new_bucket l p q))
     unfolding outcome all
     measure_end h =
         let e = left_over l p q i h in
         let n : kept ≡ length (new_bucket l p q) = omega (arith, rw e at w.counted) in
         rw (w.short, e, ← n)
 
-    module _ (h : i < length l / entry_size) (e : List ℕ) (g : e ≡ entry_at l i) (a : Answer) (f : a ≡ answer (long_kept (kept_of e p q)) (length (kept_of e p q))) where
+    module _ (h : i < length l / entry_size) (e : List ℕ) (g : e ≡ entry_at l i) (a : Result ℕ Refusal) (f : a ≡ answer (long_kept (kept_of e p q)) (length (kept_of e p q))) where
       here_left : left l p q i ≡ kept_of e p q ++ left l p q (i + 1)
       here_left = rw g (left_next l p q i h)
 
@@ -84,15 +83,15 @@ module _ (l : List ℕ) (p q : Key) where
       here_counted = rw (← length-append, ← here_left) w.counted
 
       -- an entry that is too long makes the answer
-      pub measure_refused : (r : Refusal) → a ≡ Refused r → a ≡ answer (long_kept (new_bucket l p q)) (length (new_bucket l p q))
+      pub measure_refused : (r : Refusal) (x : Result ℕ Refusal) → a ≡ Err r → x ≡ Err r → x ≡ answer (long_kept (new_bucket l p q)) (length (new_bucket l p q))
       unfolding outcome
-      measure_refused r k = go (all short_entry (kept_of e p q)) refl
+      measure_refused r x k o = o ∙ sym k ∙ go (all short_entry (kept_of e p q)) refl
         where
           go : (t : Bool) → all short_entry (kept_of e p q) ≡ t → a ≡ answer (long_kept (new_bucket l p q)) (length (new_bucket l p q))
           go true z = let v = rw z at f in let x : ◌≡◌ {A = ℕ} 0 1 = cc in absurd (omega arith)
           go false z = let v = rw z at f in let x = rw z at here_short in rw x v
 
-      module _ (n : ℕ) (k : a ≡ Value n) where
+      module _ (n : ℕ) (k : a ≡ Ok n) where
         counts : n ≡ length (kept_of e p q)
         counts = value_is (long_kept (kept_of e p q)) _ a f n k
 

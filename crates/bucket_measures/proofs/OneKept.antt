@@ -1,4 +1,5 @@
 -- What one entry leaves in a renamed bucket: its translation where its key begins with the prefix, else nothing.
+use Rattle.std.specs.Prelude.{Ok, Err}
 use mathlib.Core.Path.{◌≡◌, sym, ◌∙◌}
 use mathlib.Core.Bool.{Bool, true, false, cond, not}
 use mathlib.Core.List.{List, [], ◌∷◌}
@@ -9,7 +10,6 @@ use lib.ListN.{length, length-take, length-drop}
 use mir.Syntax.{w64}
 use mir.Val.{Fits}
 use Rattle.model.specs.declared.Refusal.TheVariants.{TooLong}
-use Rattle.model.specs.declared.Answer.TheVariants.{Value, Refused}
 use Rattle.model.specs.keys.Key.{Key, max_len, IsPrefix, change_prefix}
 use Rattle.model.specs.records.Record.{record_size, key_bytes}
 use Rattle.model.specs.tables.Tables.{all}
@@ -35,7 +35,7 @@ module _ (e : List ℕ) (p q : Key) (t : Bool) (g : t ≡ IsPrefix p (entry_of e
   kept_is = rw g
 
   -- without the prefix it leaves nothing
-  pub none_counted : not t ≡ true → Value 0 ≡ answer (long_kept (kept_of e p q)) (length (kept_of e p q))
+  pub none_counted : not t ≡ true → Ok 0 ≡ answer (long_kept (kept_of e p q)) (length (kept_of e p q))
   unfolding outcome all
   none_counted h = rw (kept_is, not-true t h)
 
@@ -51,7 +51,7 @@ module _ (e : List ℕ) (p q : Key) (t : Bool) (g : t ≡ IsPrefix p (entry_of e
     changed_length : length (change_prefix p q (entry_of e).key) ≡ length q + (length (entry_of e).key - length p)
     changed_length = length_change p q (entry_of e).key
 
-    changed_long : max_len < length (change_prefix p q (entry_of e).key) → Refused TooLong ≡ answer (long_kept (kept_of e p q)) (length (kept_of e p q))
+    changed_long : max_len < length (change_prefix p q (entry_of e).key) → Err TooLong ≡ answer (long_kept (kept_of e p q)) (length (kept_of e p q))
     unfolding outcome all
     changed_long j = rw (one_is, lt-leb (length (change_prefix p q (entry_of e).key)) max_len j)
 
@@ -68,10 +68,10 @@ module _ (e : List ℕ) (p q : Key) (t : Bool) (g : t ≡ IsPrefix p (entry_of e
       changed_is = rw f changed_length
 
       -- which is refused where it passes 64 bytes
-      pub long_refused : max_len < n + (length k - length p) → Refused TooLong ≡ answer (long_kept (kept_of e p q)) (length (kept_of e p q))
+      pub long_refused : max_len < n + (length k - length p) → Err TooLong ≡ answer (long_kept (kept_of e p q)) (length (kept_of e p q))
       long_refused o = changed_long (omega (arith, j, changed_is))
 
       -- and else counted
-      pub one_counted : n + (length k - length p) ≤ max_len → Value 1 ≡ answer (long_kept (kept_of e p q)) (length (kept_of e p q))
+      pub one_counted : n + (length k - length p) ≤ max_len → Ok 1 ≡ answer (long_kept (kept_of e p q)) (length (kept_of e p q))
       unfolding outcome all
       one_counted o = rw (one_is, le-leb (length (change_prefix p q (entry_of e).key)) max_len (omega (arith, j, changed_is)))

@@ -9,10 +9,7 @@ use model::{ENTRY_SIZE, MAX_LEN};
 pub fn too_long(prefix: &[u8], new_prefix: &[u8]) -> bool
     ensures { result ≡ (too_long prefix.now || too_long new_prefix.now) }
 {
-    if MAX_LEN < prefix.len() {
-        return true;
-    }
-    MAX_LEN < new_prefix.len()
+    MAX_LEN < prefix.len() || MAX_LEN < new_prefix.len()
 }
 
 // Cause 10: whether a destination of so many bytes holds fewer entries than are kept. By a quotient, since a product could wrap.

@@ -24,7 +24,7 @@ use Rattle.model.proofs.Lists.{rest, lent_on, over_append, length_over, all_appe
 use Rattle.model.proofs.keys.Key.{both}
 use Rattle.model.proofs.buckets.Entries.{encode_append, length-encode_bucket}
 use Rattle.model.proofs.calls.Refusals.{none_here, none_later, none_before, none_after}
-use Rattle.model.proofs.calls.BucketCalls.{bucket_most, kept_sized}
+use Rattle.model.proofs.calls.BucketCalls.{kept_sized}
 use Rattle.model.specs.inner.Places.{entry_at}
 use Rattle.bucket_measures.specs.Kept.{Good, kept_of}
 use Rattle.bucket_measures.proofs.OneKept.{one_left}
@@ -121,6 +121,11 @@ module _ (l : List ℕ) (p q : Key) (d₀ : List ℕ) (kept : ℕ) (h : first (t
         let e : encode_bucket (left l p q i) ≡ [] = no_bytes (encode_bucket (left l p q i)) n in
         sym (take-append-drop at d) ∙ (rw e at w.bytes)
 
+    -- nor past the last entry
+    pub put_over : length l / entry_size ≤ i → d ≡ over (encode_bucket (new_bucket l p q)) d₀
+    unfolding over encode_bucket joined
+    put_over o = sym (take-append-drop at d) ∙ (rw (left_over l p q i o) at w.bytes)
+
     module _ (o : at < kept * entry_size) where
       -- before it there is an entry
       put_place : i < length l / entry_size
@@ -129,14 +134,6 @@ module _ (l : List ℕ) (p q : Key) (d₀ : List ℕ) (kept : ℕ) (h : first (t
         where
           past : length l / entry_size ≤ i → i < length l / entry_size
           past j = absurd (omega (arith, rw (left_over l p q i j) at w.ends, whole_length l p q d₀ h))
-
-      -- the next place is a number of the code
-      pub place_fits : Fits w64 (i + 1)
-      place_fits = record { fits = omega (arith, put_place, bucket_most _ l (all_good l p q d₀ h)) }
-
-      -- from there on fewer are left
-      pub fewer_left : length l / entry_size - (i + 1) < length l / entry_size - i
-      fewer_left = omega (arith, put_place)
 
       -- after what is written there is room for an entry
       entry_room : at + entry_size ≤ length (encode_bucket (new_bucket l p q))
@@ -189,4 +186,4 @@ module _ (l : List ℕ) (p q : Key) (d₀ : List ℕ) (kept : ℕ) (h : first (t
               }
 
 -- writing the entries, one after the other
-pub ruleset appending = (end_fits, put_start, put_inside, put_end, place_fits, fewer_left, put_checked, put_short, put_room, at_fits, put_turn)
+pub ruleset appending = (end_fits, put_start, put_inside, put_end, put_over, put_checked, put_short, put_room, at_fits, put_turn)

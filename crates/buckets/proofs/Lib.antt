@@ -3,3 +3,4 @@ pub mod OneEntry
 pub mod Writing
 pub mod Appending
 pub mod Renaming
+pub mod Rules

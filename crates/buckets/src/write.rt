@@ -15,6 +15,7 @@ use model::{ENTRY_SIZE, RECORD_SIZE};
 
 // The part of an entry that its key fills. `entries::key_of` does the same and asks for the length first; the loop below
 // can't know it, and a test for each entry would cost.
+#[tactic(auto, using(crate::proofs::Rules::key_of))]
 fn key_of(entry: &[u8]) -> &[u8]
     requires { record_size ≤ length entry.now }
     ensures { result.now ≡ (entry_of entry.now).key }
@@ -32,6 +33,7 @@ fn begins_with(entry: &[u8], prefix: &[u8]) -> bool
 
 // Writes the record of a key in two parts to the head of dest, which has room for it. `records::put_joined` does the same
 // and asks first; it is called, and here a call for each entry would cost.
+#[tactic(auto, using(crate::proofs::Rules::put_key))]
 fn put_key(first: &[u8], rest: &[u8], dest: &mut [u8])
     requires { (length first.now + length rest.now ≤ max_len) × (record_size ≤ length dest.old) }
     ensures { dest.new ≡ over (record_of (length (first.now ++ rest.now)) (first.now ++ rest.now)) dest.old }
@@ -41,6 +43,7 @@ fn put_key(first: &[u8], rest: &[u8], dest: &mut [u8])
 }
 
 // Writes the translation of an entry whose key begins with the prefix to the head of dest.
+#[tactic(auto, using(crate::proofs::Rules::put_kept))]
 fn put_kept(entry: &[u8], prefix: &[u8], new_prefix: &[u8], dest: &mut [u8])
     requires { (CheckedEntry entry.now) × (IsPrefix prefix.now (entry_of entry.now).key ≡ true) × (short_entry (translate_entry prefix.now new_prefix.now (entry_of entry.now)) ≡ true) × (entry_size ≤ length dest.old) }
     ensures { dest.new ≡ over (encode_entry (translate_entry prefix.now new_prefix.now (entry_of entry.now))) dest.old }
@@ -53,7 +56,7 @@ fn put_kept(entry: &[u8], prefix: &[u8], new_prefix: &[u8], dest: &mut [u8])
 
 // Writes what an entry leaves to the head of dest: its translation where its key begins with the prefix, else nothing.
 // Answers the bytes written.
-#[tactic(auto, using(crate::proofs::OneEntry::one_entry))]
+#[tactic(auto, using(crate::proofs::Rules::put_entry))]
 fn put_entry(entry: &[u8], prefix: &[u8], new_prefix: &[u8], dest: &mut [u8]) -> usize
     requires { (CheckedEntry entry.now) × (all short_entry (kept_of entry.now prefix.now new_prefix.now) ≡ true) × (length (kept_bytes entry.now prefix.now new_prefix.now) ≤ length dest.old) }
     ensures count { result ≡ length (kept_bytes entry.now prefix.now new_prefix.now) }
@@ -68,7 +71,7 @@ fn put_entry(entry: &[u8], prefix: &[u8], new_prefix: &[u8], dest: &mut [u8]) ->
 
 // Writes the translated bucket, of so many entries, to the head of dest: each entry to what the ones before it left of dest.
 // What follows the last that is kept isn't looked at.
-#[tactic(auto, using(crate::proofs::Appending::appending))]
+#[tactic(auto, using(crate::proofs::Rules::put_entries))]
 pub(crate) fn put_entries(
     bucket: &[u8],
     prefix: &[u8],
@@ -81,9 +84,10 @@ pub(crate) fn put_entries(
 {
     let end = kept * ENTRY_SIZE;
     let mut at = 0;
-    let mut i = 0;
-    while at < end {
+    for i in 0..bucket.len() / ENTRY_SIZE {
+        if end <= at {
+            break;
+        }
         at += put_entry(entry_at(bucket, i), prefix, new_prefix, &mut dest[at..]);
-        i += 1;
     }
 }

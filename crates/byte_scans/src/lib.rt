@@ -8,10 +8,7 @@ ghost use Rattle.model.specs.ranges.RangePrefix.{lcpright};
 pub fn byte_at(s: &[u8], i: usize) -> u8
     ensures { result ≡ get_or s.now i 0 }
 {
-    if i < s.len() {
-        return s[i];
-    }
-    0
+    s.get(i).copied().unwrap_or(0)
 }
 
 // The length of the leading run of FF.
@@ -19,12 +16,5 @@ pub fn ff_run(a: &[u8]) -> usize
     ensures value { result ≡ length (lcpright a.now) }
     ensures upper_bound { result ≤ length a.now }
 {
-    let mut i = 0;
-    while i < a.len() {
-        if a[i] != 255 {
-            return i;
-        }
-        i += 1;
-    }
-    i
+    a.iter().take_while(|&&x| x == 255).count()
 }

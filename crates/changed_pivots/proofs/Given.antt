@@ -1,4 +1,5 @@
 -- Pivots, prefixes and an end without the causes 1 to 3; and 7 and 8 behind these.
+use Rattle.std.specs.Prelude.{Result, Ok, Err}
 use mathlib.Core.Path.{◌≡◌, refl, ◌∙◌}
 use mathlib.Core.Bool.{Bool, true, false, not, ◌||◌, and-true, true≢false}
 use mathlib.Core.List.{List, [], ◌∷◌}
@@ -6,8 +7,6 @@ use Prim.Native.Nat.{ℕ, ◌≤◌, ◌<◌}
 use borrow.Author.Tests.{lt-ltb, le-ltb, ltb-false, not-false}
 use lib.ListN.{length}
 use Rattle.model.specs.declared.Refusal.{Refusal}
-use Rattle.model.specs.declared.Answer.{Answer}
-use Rattle.model.specs.declared.Answer.TheVariants as answers
 use Rattle.model.specs.keys.Key.{too_long}
 use Rattle.model.specs.records.Record.{reading, element_reading, element, elements}
 use Rattle.model.specs.tables.Tables.{all, short_element, WFPivots}
@@ -70,32 +69,32 @@ module _ (v p q n : List ℕ) (h : Given v p q n) where
   only_changed = all_append short_element (changed_pivots v p q) (element n ∷ []) ∙ rw (short_element_lem n end_element, and-true)
 
   -- with them 7 and 8 are those of the changed pivots
-  pub keys_decide : (b : Answer) (l : ℕ) → b ≡ answer (changeable_causes v p q) l → b ≡ answer (renamed_causes v p q n) l
-  keys_decide b l e = after answers.Refused (answers.Value l) b (with_end_causes v p q n) _ h (rw only_changed e)
+  pub keys_decide : (b : Result ℕ Refusal) (l : ℕ) → b ≡ answer (changeable_causes v p q) l → b ≡ answer (renamed_causes v p q n) l
+  keys_decide b l e = after Err (Ok l) b (with_end_causes v p q n) _ h (rw only_changed e)
 
 -- ---- the check of the pivots with the other arguments
 
-module _ (v p q n : List ℕ) (bad : Bool) (m : ℕ) (z : Answer) (b : bad ≡ (too_long p || too_long q || not_element n))
+module _ (v p q n : List ℕ) (bad : Bool) (m : ℕ) (z : Result ℕ Refusal) (b : bad ≡ (too_long p || too_long q || not_element n))
     (e : z ≡ answer (pivot_causes (not_record n) bad v) m) where
   -- the check is that of all arguments
   found : z ≡ answer (with_end_causes v p q n) m
   found = rw b at e
 
   -- where it is passed, the arguments are as they must be
-  pub given : (l : ℕ) → z ≡ answers.Value l → Given v p q n
+  pub given : (l : ℕ) → z ≡ Ok l → Given v p q n
   given l k = accepted _ m z found l k
 
   -- the pivots are well formed
-  pub asked_wf : (l : ℕ) → z ≡ answers.Value l → WFPivots (elements v) ≡ true
+  pub asked_wf : (l : ℕ) → z ≡ Ok l → WFPivots (elements v) ≡ true
   asked_wf l k = given_wf v p q n (given l k)
 
   -- and the prefixes have at most 64 bytes
-  pub asked_prefix : (l : ℕ) → z ≡ answers.Value l → length p ≤ 64
+  pub asked_prefix : (l : ℕ) → z ≡ Ok l → length p ≤ 64
   asked_prefix l k = given_prefix v p q n (given l k)
 
-  pub asked_new_prefix : (l : ℕ) → z ≡ answers.Value l → length q ≤ 64
+  pub asked_new_prefix : (l : ℕ) → z ≡ Ok l → length q ≤ 64
   asked_new_prefix l k = given_new_prefix v p q n (given l k)
 
   -- where it is not, it decides
-  pub pivots_refused : (x : Answer) (w : ℕ) (r : Refusal) → z ≡ answers.Refused r → x ≡ answers.Refused r → x ≡ answer (renamed_causes v p q n) w
-  pivots_refused x w r k y = handed_on-first _ m z found answers.Refused (answers.Value w) x _ r k y
+  pub pivots_refused : (x : Result ℕ Refusal) (w : ℕ) (r : Refusal) → z ≡ Err r → x ≡ Err r → x ≡ answer (renamed_causes v p q n) w
+  pivots_refused x w r k y = handed_on-first _ m z found Err (Ok w) x _ r k y

@@ -1,4 +1,5 @@
 -- The pass over the pivots but the last: does each begin with the prefix, and is none too long once it is changed?
+use Rattle.std.specs.Prelude.{Ok, Err}
 use mathlib.Core.Path.{◌≡◌, refl, ◌∙◌}
 use mathlib.Core.Bool.{Bool, true, false, not, ◌&&◌, and_assoc}
 use mathlib.Core.List.{List, [], ◌∷◌, map}
@@ -10,7 +11,6 @@ use borrow.Author.Tests.{not-true, not-false, le-leb, lt-leb}
 use lib.Dec.{leb}
 use lib.ListN.{length, drop, get_or, drop_of_length-le}
 use lib.Seq.{drop-cons, get_or-take, length-take-le}
-use Rattle.model.specs.declared.Answer.TheVariants.{Value, Refused}
 use Rattle.model.specs.declared.Refusal.TheVariants.{NotPrefix, TooLong}
 use Rattle.model.specs.keys.Key.{Key, max_len, IsPrefix, change_prefix}
 use Rattle.model.specs.keys.Order.{key, max}
@@ -59,12 +59,19 @@ pub record Passing (v p q : List ℕ) (fit : Bool) (i : ℕ) : Type 0 where
   pub short : all short_element (changed_pivots v p q) ≡ (fit && all short_element (map (TranslateElement p q) (drop i (but_last (elements v)))))
 
 module _ (v p q : List ℕ) where
+  -- there is a pivot
+  pub some_pivot : WFPivots (elements v) ≡ true → 1 ≤ length v / 66
+  some_pivot wf = omega (arith, wf_count (elements v) wf, length_elements v)
+
   -- before the first key
   pub pass_start : WFPivots (elements v) ≡ true → length q ≤ 64 → Passing v p q true 0
-  pass_start wf h = record { wf = wf; room = h; within = omega (arith, wf_count (elements v) wf, length_elements v); begin = refl; short = refl }
+  pass_start wf h = record { wf = wf; room = h; within = some_pivot wf; begin = refl; short = refl }
 
   module _ (fit : Bool) (i : ℕ) (w : Passing v p q fit i) where
-    module _ (a k : List ℕ) (t : Bool) (m : i + 1 < length v / 66) (f : a ≡ record_at v i) (g : k ≡ key_bytes a) (e : t ≡ IsPrefix p k) where
+    module _ (a k : List ℕ) (t : Bool) (before : i < length v / 66 - 1) (f : a ≡ record_at v i) (g : k ≡ key_bytes a) (e : t ≡ IsPrefix p k) where
+      m : i + 1 < length v / 66
+      m = omega arith
+
       -- what is left begins with the key at the place
       here_key : drop i (but_last (elements v)) ≡ key k ∷ drop (i + 1) (but_last (elements v))
       here_key = rw (add-one, g, f, ← but_at v w.wf i m) (drop-cons (but_last (elements v)) i max (omega (arith, but_count v w.wf)))
@@ -81,14 +88,14 @@ module _ (v p q : List ℕ) where
       short_on = w.short ∙ rw (here_key, changed_fits p q k w.room, and_assoc)
 
       -- a key that lacks the prefix is refused
-      pub not_begun : (n : ℕ) → not t ≡ true → Refused NotPrefix ≡ answer (changeable_causes v p q) n
-      not_begun n h = here Refused _ _ _ NotPrefix _ (rw (begin_on, not-true t h)) refl
+      pub not_begun : (n : ℕ) → not t ≡ true → Err NotPrefix ≡ answer (changeable_causes v p q) n
+      not_begun n h = here Err _ _ _ NotPrefix _ (rw (begin_on, not-true t h)) refl
 
       -- one that has it is passed
       pub pass_next : (u : Bool) → not t ≡ false → u ≡ (fit && leb (length k) (64 - length q + length p)) → Passing v p q u (i + 1)
       pass_next u h j = record { wf = w.wf; room = w.room; within = omega arith; begin = begin_on ∙ rw (not-false t h); short = short_on ∙ rw j }
 
-    module _ (m : length v / 66 ≤ i + 1) (n : ℕ) where
+    module _ (m : length v / 66 - 1 ≤ i) (n : ℕ) where
       -- after the last key nothing is left
       none_left : drop i (but_last (elements v)) ≡ []
       none_left =
@@ -106,12 +113,12 @@ module _ (v p q : List ℕ) where
       all_short = rw (w.short, none_left)
 
       -- a key that did not fit is refused
-      pub pass_long : not fit ≡ true → Refused TooLong ≡ answer (changeable_causes v p q) n
-      pass_long h = later Refused _ _ _ NotPrefix _ all_begin (here Refused _ _ _ TooLong _ (rw (all_short, not-true fit h)) refl)
+      pub pass_long : not fit ≡ true → Err TooLong ≡ answer (changeable_causes v p q) n
+      pass_long h = later Err _ _ _ NotPrefix _ all_begin (here Err _ _ _ TooLong _ (rw (all_short, not-true fit h)) refl)
 
       -- else neither cause applies
-      pub pass_done : not fit ≡ false → Value n ≡ answer (changeable_causes v p q) n
-      pass_done h = later Refused _ _ _ NotPrefix _ all_begin (later Refused _ _ _ TooLong _ (rw (all_short, not-false fit h)) (done Refused _ _ refl))
+      pub pass_done : not fit ≡ false → Ok n ≡ answer (changeable_causes v p q) n
+      pass_done h = later Err _ _ _ NotPrefix _ all_begin (later Err _ _ _ TooLong _ (rw (all_short, not-false fit h)) (done Err _ _ refl))
 
 -- ---- one key more
 

@@ -1,2 +1,3 @@
 pub mod KeyPass
 pub mod Given
+pub mod Rules

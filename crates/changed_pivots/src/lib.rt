@@ -9,64 +9,57 @@ ghost use Rattle.model.specs.calls.Refusals.{answer};
 ghost use Rattle.model.specs.calls.KeyCalls.{not_element};
 ghost use Rattle.changed_pivots.specs.Renamed.{changeable_causes, renamed_causes};
 
-use model::{Answer, MAX_LEN, RECORD_SIZE, Refusal};
+use model::{MAX_LEN, RECORD_SIZE, Refusal};
 
 // Whether keys that fit so far fit with one of n bytes.
 fn fits_too(fit: bool, n: usize, most: usize) -> bool
     ensures { result ≡ (fit && leb n most) }
 {
-    if fit {
-        return n <= most;
-    }
-    false
+    fit && n <= most
 }
 
 // Causes 7 and 8, in one pass: each pivot but the last begins with the prefix, and has at most 64 bytes once it is
 // changed.
-fn check_keys(pivots: &[u8], prefix: &[u8], new_prefix: &[u8]) -> Answer
+#[tactic(auto, using(crate::proofs::Rules::check_keys))]
+fn check_keys(pivots: &[u8], prefix: &[u8], new_prefix: &[u8]) -> Result<usize, Refusal>
     requires { (WFPivots (elements pivots.now) ≡ true) × (length prefix.now ≤ max_len) × (length new_prefix.now ≤ max_len) }
     ensures { result ≡ answer (changeable_causes pivots.now prefix.now new_prefix.now) (length pivots.now / record_size) }
 {
     let count = pivots.len() / RECORD_SIZE;
     let most = MAX_LEN - new_prefix.len() + prefix.len();
     let mut fit = true;
-    let mut i = 0;
-    while i + 1 < count {
+    for i in 0..count - 1 {
         let k = records::key_bytes(records::record_at(pivots, i));
         if !scan::is_prefix(prefix, k) {
-            return Answer::Refused(Refusal::NotPrefix);
+            return Err(Refusal::NotPrefix);
         }
         fit = fits_too(fit, k.len(), most);
-        i += 1;
     }
     if !fit {
-        return Answer::Refused(Refusal::TooLong);
+        return Err(Refusal::TooLong);
     }
-    Answer::Value(count)
+    Ok(count)
 }
 
 // Cause 2 of the prefixes and of the end.
 fn misread(prefix: &[u8], new_prefix: &[u8], end: &[u8]) -> bool
     ensures { result ≡ (too_long prefix.now || too_long new_prefix.now || not_element end.now) }
 {
-    if MAX_LEN < prefix.len() {
-        return true;
-    }
-    if MAX_LEN < new_prefix.len() {
-        return true;
-    }
-    !records::holds_element(end)
+    MAX_LEN < prefix.len() || MAX_LEN < new_prefix.len() || !records::holds_element(end)
 }
 
 // Causes 1, 2, 3, 7 and 8 of pivots with prefix changed to new_prefix in each but the last, and the given end; else the
 // count of pivots.
-pub fn check_changed(pivots: &[u8], prefix: &[u8], new_prefix: &[u8], end: &[u8]) -> Answer
+#[tactic(auto, using(crate::proofs::Rules::check_changed))]
+pub fn check_changed(
+    pivots: &[u8],
+    prefix: &[u8],
+    new_prefix: &[u8],
+    end: &[u8],
+) -> Result<usize, Refusal>
     ensures { result ≡ answer (renamed_causes pivots.now prefix.now new_prefix.now end.now) (length pivots.now / record_size) }
 {
     let bad = misread(prefix, new_prefix, end);
-    let found = pivot_checks::check_pivots(pivots, end.len() != RECORD_SIZE, bad);
-    let Answer::Value(_) = found else {
-        return found;
-    };
+    pivot_checks::check_pivots(pivots, end.len() != RECORD_SIZE, bad)?;
     check_keys(pivots, prefix, new_prefix)
 }

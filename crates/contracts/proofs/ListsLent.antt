@@ -1,4 +1,5 @@
 -- Lists of buckets: what a lent bucket and index hold, what the calls on them leave, and when they refuse.
+use Rattle.std.specs.Prelude.{Ok, Err}
 use mathlib.Core.Path.{◌≡◌, refl, sym, ap, ◌∙◌}
 use mathlib.Core.Bool.{Bool, true, false, not, ◌&&◌, ◌||◌, true≢false}
 use mathlib.Core.List.{List, [], ◌∷◌, ◌++◌}
@@ -10,8 +11,6 @@ use borrow.Author.Tests.{not-false, ltb-false, lt-ltb, le-ltb}
 use lib.ListN.{length, take, drop, get_or}
 use lib.Seq.{take-append_seam, drop-append_seam, take_at, drop_at}
 use Rattle.model.specs.declared.Refusal.TheVariants.{Shape, Malformed, OutOfRange, TooLong, NoRoom, EntriesUnsorted, WrongIndex}
-use Rattle.model.specs.declared.Answer.TheVariants as answers
-use Rattle.model.specs.declared.Decided.TheVariants as decided
 use Rattle.model.specs.keys.Key.{Key, too_long}
 use Rattle.model.specs.keys.Order.{key, lte_key, lte}
 use Rattle.model.specs.records.Record.{length_field, all_zero, field_reading, reading, key_bytes, element, record_of, encode, pieces, joined, records, elements, encode_all}
@@ -127,25 +126,25 @@ inv_is l = by_flags (not_entry_count l) (entries_read (entry_bytes l))
 module _ (wrong outside : Bool) (p l x : List ℕ) (ds : List Cause) (v : ℕ) where
   -- the bucket isn't one whose entries rise, or the index has no place for each slot and the total, rising from 0 on
   pub list_unsound : (InvLseq l x (length (slot_buckets (elements p) (entries l))) → ⊥)
-      → RefusesAt answers.Refused (given_causes wrong outside p l x ++ ds) 7 WrongIndex (answer (given_causes wrong outside p l x ++ ds) v)
+      → RefusesAt Err (given_causes wrong outside p l x ++ ds) 7 WrongIndex (answer (given_causes wrong outside p l x ++ ds) v)
   unfolding given_causes entries_causes paired pivot_causes bucket_causes
   list_unsound f =
-      refuses_unless answers.Refused _ (given_causes wrong outside p l x ++ ds) 7 (wrong_index p l x) WrongIndex ds refl
+      refuses_unless Err _ (given_causes wrong outside p l x ++ ds) 7 (wrong_index p l x) WrongIndex ds refl
       (λ h. not_fails _ (refuted _ (λ t. f (list_sound wrong outside p l h x (same_bytes x (index_bytes p l) t)))))
 
   -- bucket and index don't hold the slots' buckets
   pub list_refused : (ILseq l x (slot_buckets (elements p) (entries l)) → ⊥)
-      → RefusesAt answers.Refused (given_causes wrong outside p l x ++ ds) 7 WrongIndex (answer (given_causes wrong outside p l x ++ ds) v)
+      → RefusesAt Err (given_causes wrong outside p l x ++ ds) 7 WrongIndex (answer (given_causes wrong outside p l x ++ ds) v)
   unfolding given_causes entries_causes paired pivot_causes bucket_causes
   list_refused f =
-      refuses_unless answers.Refused _ (given_causes wrong outside p l x ++ ds) 7 (wrong_index p l x) WrongIndex ds refl
+      refuses_unless Err _ (given_causes wrong outside p l x ++ ds) 7 (wrong_index p l x) WrongIndex ds refl
       (λ h. not_fails _ (refuted _ (λ t. f (list_held wrong outside p l h x (same_bytes x (index_bytes p l) t)))))
 
   -- the bucket isn't one
-  pub bucket_refused : Inv l ≡ false → Refuses answers.Refused 2 (answer (given_causes wrong outside p l x ++ ds) v)
+  pub bucket_refused : Inv l ≡ false → Refuses Err 2 (answer (given_causes wrong outside p l x ++ ds) v)
   unfolding given_causes entries_causes paired pivot_causes bucket_causes
   bucket_refused h =
-      call_refuses answers.Refused _ 2 (given_causes wrong outside p l x ++ ds)
+      call_refuses Err _ 2 (given_causes wrong outside p l x ++ ds)
       (more_refused 2 (take 4 (given_causes wrong outside p l x ++ ds)) _ (clause_refused 2 (take 4 (given_causes wrong outside p l x ++ ds)) (Inv l) refl inv h))
     where
       inv : first (take 4 (given_causes wrong outside p l x ++ ds)) ≡ none → Inv l ≡ true
@@ -157,14 +156,14 @@ module _ (wrong outside : Bool) (p l x : List ℕ) (ds : List Cause) (v : ℕ) w
 
   -- there are more than 63 slots
   pub many_refused : max_pivots ≤ length (slot_buckets (elements p) (entries l))
-      → RefusesAt answers.Refused (given_causes wrong outside p l x ++ ds) 0 Shape (answer (given_causes wrong outside p l x ++ ds) v)
+      → RefusesAt Err (given_causes wrong outside p l x ++ ds) 0 Shape (answer (given_causes wrong outside p l x ++ ds) v)
   unfolding given_causes entries_causes paired pivot_causes bucket_causes
-  many_refused h = refuses_at answers.Refused _ (given_causes wrong outside p l x ++ ds) 0 _ Shape _ refl (too_many p (omega (arith, slots_count (elements p) (entries l))))
+  many_refused h = refuses_at Err _ (given_causes wrong outside p l x ++ ds) 0 _ Shape _ refl (too_many p (omega (arith, slots_count (elements p) (entries l))))
 
   -- another argument is outside the table
-  pub outside_refused : outside ≡ true → RefusesAt answers.Refused (given_causes wrong outside p l x ++ ds) 6 OutOfRange (answer (given_causes wrong outside p l x ++ ds) v)
+  pub outside_refused : outside ≡ true → RefusesAt Err (given_causes wrong outside p l x ++ ds) 6 OutOfRange (answer (given_causes wrong outside p l x ++ ds) v)
   unfolding given_causes entries_causes paired pivot_causes bucket_causes
-  outside_refused h = refuses_at answers.Refused _ (given_causes wrong outside p l x ++ ds) 6 _ OutOfRange _ refl (or_left outside _ h)
+  outside_refused h = refuses_at Err _ (given_causes wrong outside p l x ++ ds) 6 _ OutOfRange _ refl (or_left outside _ h)
 
 -- the two are not the same: between the pivots 61 and 63 the entries 62 and 61, with the index 0, 2, hold the slot's bucket and don't rise, so a call refuses them with 14
 abbrev pivots_ac : List ℕ
@@ -177,7 +176,7 @@ abbrev index_ba : List ℕ
 index_ba = 0 ∷ 0 ∷ 0 ∷ 2 ∷ []
 
 pub held_unsound : ILseq bucket_ba index_ba (slot_buckets (elements pivots_ac) (entries bucket_ba)) × (InvLseq bucket_ba index_ba 1 → ⊥)
-    × (translate_index_answer pivots_ac bucket_ba index_ba [] [] [] [] ≡ answers.Refused EntriesUnsorted)
+    × (translate_index_answer pivots_ac bucket_ba index_ba [] [] [] [] ≡ Err EntriesUnsorted)
 unfolding outcome paired pivot_causes not_pivot_count pivots_read records pieces elements encode_all encode record_of joined reading field_reading length_field all_zero element key_bytes IsStrictlySorted rises_from lte lte_key all bucket_causes not_entry_count_by entries_read entry_bytes_by entries entry_of encode_bucket encode_entry entries_rise entries_causes given_causes only entries_below Index encode_place encode_index slot_entries slots_from slot_buckets together places_from
 held_unsound = (record { bucket = refl; index = refl }, λ s. true≢false (sym s.rises), refl)
 
@@ -219,18 +218,18 @@ module _ (p l x : List ℕ) (old new : Key) (db dx : List ℕ) (blist : List Buc
 
   -- a kept key of one bucket would pass 64 bytes
   pub long_refused : (i : ℕ) → i < length blist → all short_entry (TranslateBucket (get_or blist i []) old new) ≡ false
-      → RefusesAt answers.Refused (translate_index_causes p l x old new db dx) 8 TooLong (translate_index_answer p l x old new db dx)
+      → RefusesAt Err (translate_index_causes p l x old new db dx) 8 TooLong (translate_index_answer p l x old new db dx)
   unfolding given_causes entries_causes paired pivot_causes bucket_causes
   long_refused i h f =
-      refuses_unless answers.Refused _ (translate_index_causes p l x old new db dx) 8 (bucket_long l old new) TooLong _ refl
+      refuses_unless Err _ (translate_index_causes p l x old new db dx) 8 (bucket_long l old new) TooLong _ refl
       (λ g. not_fails _ (ap (all short_entry) (new_list g) ∙ one_long old new blist i h f))
 
   -- a destination would not hold the entries kept, or the places
   pub full_refused : (length db < length (together (TranslateBuckets blist old new)) * entry_size) ⊎ (length dx < length (elements p) * place_size)
-      → RefusesAt answers.Refused (translate_index_causes p l x old new db dx) 9 NoRoom (translate_index_answer p l x old new db dx)
+      → RefusesAt Err (translate_index_causes p l x old new db dx) 9 NoRoom (translate_index_answer p l x old new db dx)
   unfolding given_causes entries_causes paired pivot_causes bucket_causes needed_bytes
   full_refused h =
-      refuses_unless answers.Refused _ (translate_index_causes p l x old new db dx) 9 (no_room (needed_bytes l old new) db || no_room (length (elements p) * place_size) dx) NoRoom [] refl
+      refuses_unless Err _ (translate_index_causes p l x old new db dx) 9 (no_room (needed_bytes l old new) db || no_room (length (elements p) * place_size) dx) NoRoom [] refl
       (λ g. ⊎_elim (entries_full (none_before (given_causes (too_long old || too_long new) false p l x) ((bucket_long l old new ⇒ TooLong) ∷ []) g)) places_full h)
     where
       entries_full : first (given_causes (too_long old || too_long new) false p l x) ≡ none → length db < length (together (TranslateBuckets blist old new)) * entry_size
@@ -243,16 +242,16 @@ module _ (p l x : List ℕ) (old new : Key) (db dx : List ℕ) (blist : List Buc
   -- else, where no cause before applies, the call is accepted
   pub list_accepted : first (given_causes (too_long old || too_long new) false p l x) ≡ none → TranslateBucketsWillFit blist old new
       → length (together (TranslateBuckets blist old new)) * entry_size ≤ length db → length (elements p) * place_size ≤ length dx
-      → translate_index_answer p l x old new db dx ≡ answers.Value (length (together (TranslateBuckets blist old new)))
+      → translate_index_answer p l x old new db dx ≡ Ok (length (together (TranslateBuckets blist old new)))
   unfolding outcome needed_bytes
   list_accepted g f a c =
       let n = new_list g in
       let s : all short_entry (new_bucket l old new) ≡ true = rw n (fits_together old new blist f) in
-      go_on answers.Refused _ (given_causes (too_long old || too_long new) false p l x) _ g
+      go_on Err _ (given_causes (too_long old || too_long new) false p l x) _ g
       ∙ rw (s, n, le-ltb (length db) (length (together (TranslateBuckets blist old new)) * entry_size) a, le-ltb (length dx) (length (elements p) * place_size) c)
 
   -- where the bucket alone will fit, the list does, and there is room for its entries
-  pub yes_fits : first (given_causes (too_long old || too_long new) false p l x) ≡ none → will_fit_answer l old new (length db) ≡ decided.Yes
+  pub yes_fits : first (given_causes (too_long old || too_long new) false p l x) ≡ none → will_fit_answer l old new (length db) ≡ Ok true
       → (TranslateBucketsWillFit blist old new) × (length (together (TranslateBuckets blist old new)) * entry_size ≤ length db)
   unfolding needed_bytes
   yes_fits g y =

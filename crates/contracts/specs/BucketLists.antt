@@ -1,7 +1,6 @@
 -- Whether a bucket will fit, and lists of buckets: what stands in place of lseq<MutBucket>, a bucket with its index (W5).
-use Rattle.std.specs.Prelude.{◌≡◌, Bool, true, false, not, ◌&&◌, List, [], ◌∷◌, ◌++◌, ℕ, ◌+◌, ◌*◌, ◌≤◌, ◌<◌, leb, length, take, drop, get_or}
+use Rattle.std.specs.Prelude.{◌≡◌, Bool, true, false, not, ◌&&◌, List, [], ◌∷◌, ◌++◌, ℕ, ◌+◌, ◌*◌, ◌≤◌, ◌<◌, leb, length, take, drop, get_or, Ok}
 use Rattle.std.proofs.Math.Option.{none}
-use Rattle.model.specs.declared.Answer.TheVariants as answers
 use Rattle.model.specs.keys.Key.{Key}
 use Rattle.model.specs.keys.Order.{key}
 use Rattle.model.specs.records.Record.{elements, encode_all}
@@ -61,7 +60,7 @@ pub record CutsIndex (left : Bool) (p l x : List ℕ) (k : Key) (p' l' x' : List
   pub entries_to : List ℕ
   pub places_to : List ℕ
   pub total : ℕ
-  pub answered : cut_index_answer left p l x k entries_to places_to ≡ answers.Value total
+  pub answered : cut_index_answer left p l x k entries_to places_to ≡ Ok total
   pub pivots : p' ≡ encode_all (cut_pivots left p k)
   pub bucket : l' ≡ take (total * entry_size) (cut_index_leaves_bucket left p l x k entries_to places_to)
   pub index : x' ≡ take (length (cut_pivots left p k) * place_size) (cut_index_leaves_index left p l x k entries_to places_to)
@@ -71,6 +70,6 @@ pub record TranslatesIndex (p l x : List ℕ) (old new : Key) (l' x' : List ℕ)
   pub entries_to : List ℕ
   pub places_to : List ℕ
   pub total : ℕ
-  pub answered : translate_index_answer p l x old new entries_to places_to ≡ answers.Value total
+  pub answered : translate_index_answer p l x old new entries_to places_to ≡ Ok total
   pub bucket : l' ≡ take (total * entry_size) (translate_index_leaves_bucket p l x old new entries_to places_to)
   pub index : x' ≡ take (length (elements p) * place_size) (translate_index_leaves_index p l x old new entries_to places_to)

@@ -1,17 +1,14 @@
 -- A turn and the end of a loop that writes bytes.
-use mathlib.Core.Path.{◌≡◌, ap, ◌∙◌}
+use mathlib.Core.Path.{◌≡◌, ap}
 use mathlib.Core.List.{List, ◌++◌}
 use Prim.Native.Nat.{ℕ, ◌+◌, ◌≤◌, ◌<◌, min}
 use native.Mathlib.Numerals.{add-one}
 use native.Mathlib.Omega.{arith}
-use lib.ListN.{length, take, drop, get_or, set, length-set, length-take}
+use lib.ListN.{length, take, drop, get_or, set, length-take}
 use lib.Seq.{take-suc, set_at, append_snoc, length-take-le}
 use Rattle.model.specs.calls.Refusals.{over}
 use Rattle.model.specs.inner.Written.{into}
 use Rattle.model.proofs.Lists.{drop_step, take_min}
-
-pub set_kept : (d₀ d : List ℕ) (i v : ℕ) → length d ≡ length d₀ → length (set d i v) ≡ length d₀
-set_kept d₀ d i v e = length-set d i v ∙ e
 
 -- a byte more of s, over d₀
 module _ (s d₀ d : List ℕ) (i n : ℕ) (h : d ≡ take i s ++ drop i d₀) where

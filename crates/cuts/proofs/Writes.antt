@@ -1,4 +1,5 @@
 -- What a cut in a slot answers and writes.
+use Rattle.std.specs.Prelude.{Result, Ok, Err}
 use mathlib.Core.Path.{◌≡◌, refl, sym, ◌∙◌}
 use mathlib.Core.Bool.{Bool, true, false}
 use mathlib.Core.List.{List, ◌++◌, append-nil}
@@ -9,8 +10,6 @@ use mir.Syntax.{w8}
 use mir.Val.{Fits}
 use lib.ListN.{length, take, drop, get_or}
 use Rattle.model.specs.declared.Refusal.{Refusal}
-use Rattle.model.specs.declared.Answer.{Answer}
-use Rattle.model.specs.declared.Answer.TheVariants as answers
 use Rattle.model.specs.records.Record.{elements, record_of, encode_edge, encode_all, encode_edges}
 use Rattle.model.specs.inner.Written.{clipped}
 use Rattle.model.specs.tables.Tables.{all, short_edge}
@@ -63,13 +62,13 @@ module _ (left : Bool) (p e k : List ℕ) (h : first (edge_slot_causes p e k (in
   edges_short s = only_cut ∙ s
 
 -- what making it answers, and leaves in the room of a record
-module _ (left : Bool) (p e k : List ℕ) (c : ℕ) (z : Answer) (q : z ≡ slot_edge_answer left p e k c)
+module _ (left : Bool) (p e k : List ℕ) (c : ℕ) (z : Result ℕ Refusal) (q : z ≡ slot_edge_answer left p e k c)
     (h : first (edge_slot_causes p e k (inside left (elements p) k)) ≡ none) (f : c ≡ cutoff left (elements p) k)
     (s : (i : ℕ) → Fits w8 (get_or p i 0)) (t : (i : ℕ) → Fits w8 (get_or k i 0)) where
   told : z ≡ answer (long_edge_causes (edge_cut left p e k)) 1
   told = slot_edge_answer_lem left p e k c z q h f s t
 
-  pub edge_made : (m : ℕ) → z ≡ answers.Value m → ((i : ℕ) → Fits w8 (get_or e i 0)) → (v room : List ℕ) → v ≡ slot_edge_leaves left p e k c room
+  pub edge_made : (m : ℕ) → z ≡ Ok m → ((i : ℕ) → Fits w8 (get_or e i 0)) → (v room : List ℕ) → v ≡ slot_edge_leaves left p e k c room
       → length room ≡ 66 → (short_edge (edge_cut left p e k) ≡ true) × (v ≡ encode_edge (edge_cut left p e k))
   edge_made m r b v room u n =
       let short = edge_taken (edge_cut left p e k) z told m r in
@@ -78,7 +77,7 @@ module _ (left : Bool) (p e k : List ℕ) (c : ℕ) (z : Answer) (q : z ≡ slot
       let made = passed (λ (_ : Refusal). room) _ _ _ (accepted _ 1 z told m r) refl in
       (short, slot_edge_left left p e k c v room u h f s t b (omega (arith, n)) ∙ sym made ∙ whole)
 
-  pub edge_refused : {A : Type 0} (g : Refusal → A) (v x : A) (dp de : List ℕ) (y : Refusal) → z ≡ answers.Refused y → x ≡ g y
+  pub edge_refused : {A : Type 0} (g : Refusal → A) (v x : A) (dp de : List ℕ) (y : Refusal) → z ≡ Err y → x ≡ g y
       → x ≡ outcome g (write_causes (cut_pivots left p k) (cut_edges left p e k) dp de) v
   edge_refused g v x dp de y r w =
       rw (only_cut left p e k h) (refused_first g v x (long_edge_causes (edge_cut left p e k)) _ y (refused _ 1 z told y r) w)

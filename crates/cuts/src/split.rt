@@ -6,9 +6,10 @@ ghost use Rattle.model.specs.calls.Refusals.{answer, leaves};
 ghost use Rattle.model.specs.calls.CutCalls.{cut_pivots, cut_edges, write_causes, cut_answer, cut_leaves_pivots, cut_leaves_edges};
 ghost use Rattle.slot_edges.specs.Slot.{Found, edge_cut};
 
-use model::{Answer, RECORD_SIZE, Routed};
+use model::{RECORD_SIZE, Refusal};
 
 // Cause 10 of a cut in slot c whose edge is made; else its pivots and edges at the heads of the destinations.
+#[tactic(auto, using(crate::proofs::Rules::write_at))]
 fn write_at(
     pivots: &[u8],
     edges: &[u8],
@@ -18,7 +19,7 @@ fn write_at(
     made: &[u8],
     dest_pivots: &mut [u8],
     dest_edges: &mut [u8],
-) -> Answer
+) -> Result<usize, Refusal>
     requires { (Found left pivots.now edges.now k.now c) × (short_edge (edge_cut left pivots.now edges.now k.now) ≡ true) × (made.now ≡ encode_edge (edge_cut left pivots.now edges.now k.now)) }
     ensures answered { result ≡ answer (write_causes (cut_pivots left pivots.now k.now) (cut_edges left pivots.now edges.now k.now) dest_pivots.old dest_edges.old) (length (cut_pivots left pivots.now k.now)) }
     ensures pivots { dest_pivots.new ≡ leaves (write_causes (cut_pivots left pivots.now k.now) (cut_edges left pivots.now edges.now k.now) dest_pivots.old dest_edges.old) (encode_all (cut_pivots left pivots.now k.now)) dest_pivots.old }
@@ -53,6 +54,7 @@ fn write_at(
 }
 
 // Causes 8 and 10 of a cut in slot c; else its pivots and edges at the heads of the destinations.
+#[tactic(auto, using(crate::proofs::Rules::cut_at))]
 fn cut_at(
     pivots: &[u8],
     edges: &[u8],
@@ -61,21 +63,23 @@ fn cut_at(
     left: bool,
     dest_pivots: &mut [u8],
     dest_edges: &mut [u8],
-) -> Answer
+) -> Result<usize, Refusal>
     requires { Found left pivots.now edges.now k.now c }
     ensures answered { result ≡ answer (write_causes (cut_pivots left pivots.now k.now) (cut_edges left pivots.now edges.now k.now) dest_pivots.old dest_edges.old) (length (cut_pivots left pivots.now k.now)) }
     ensures pivots { dest_pivots.new ≡ leaves (write_causes (cut_pivots left pivots.now k.now) (cut_edges left pivots.now edges.now k.now) dest_pivots.old dest_edges.old) (encode_all (cut_pivots left pivots.now k.now)) dest_pivots.old }
     ensures edges { dest_edges.new ≡ leaves (write_causes (cut_pivots left pivots.now k.now) (cut_edges left pivots.now edges.now k.now) dest_pivots.old dest_edges.old) (encode_edges (cut_edges left pivots.now edges.now k.now)) dest_edges.old }
 {
     let mut made = [0u8; RECORD_SIZE];
+    // Document 01 asks for let .. else in the cuts, leaving with the inner refusal.
     let cut = slot_edges::slot_edge(pivots, edges, k, c, left, &mut made);
-    let Answer::Value(_) = cut else {
+    let Ok(_) = cut else {
         return cut;
     };
     write_at(pivots, edges, k, c, left, &made, dest_pivots, dest_edges)
 }
 
 // A cut at the key, on the left or on the right.
+#[tactic(auto, using(crate::proofs::Rules::cut))]
 fn cut(
     pivots: &[u8],
     edges: &[u8],
@@ -83,14 +87,14 @@ fn cut(
     left: bool,
     dest_pivots: &mut [u8],
     dest_edges: &mut [u8],
-) -> Answer
+) -> Result<usize, Refusal>
     ensures answered { result ≡ cut_answer left pivots.now edges.now k.now dest_pivots.old dest_edges.old }
     ensures pivots { dest_pivots.new ≡ cut_leaves_pivots left pivots.now edges.now k.now dest_pivots.old dest_edges.old }
     ensures edges { dest_edges.new ≡ cut_leaves_edges left pivots.now edges.now k.now dest_pivots.old dest_edges.old }
 {
     let routed = routing::slot_with_edges(pivots, edges, k, left);
-    let Routed::Slot(c) = routed else {
-        return routing::slot_answer(routed);
+    let Ok(c) = routed else {
+        return routed;
     };
     cut_at(pivots, edges, k, c, left, dest_pivots, dest_edges)
 }
@@ -103,7 +107,7 @@ pub fn split_left(
     key: &[u8],
     dest_pivots: &mut [u8],
     dest_edges: &mut [u8],
-) -> Answer
+) -> Result<usize, Refusal>
     ensures answered { result ≡ cut_answer true pivots.now edges.now key.now dest_pivots.old dest_edges.old }
     ensures pivots { dest_pivots.new ≡ cut_leaves_pivots true pivots.now edges.now key.now dest_pivots.old dest_edges.old }
     ensures edges { dest_edges.new ≡ cut_leaves_edges true pivots.now edges.now key.now dest_pivots.old dest_edges.old }
@@ -119,7 +123,7 @@ pub fn split_right(
     key: &[u8],
     dest_pivots: &mut [u8],
     dest_edges: &mut [u8],
-) -> Answer
+) -> Result<usize, Refusal>
     ensures answered { result ≡ cut_answer false pivots.now edges.now key.now dest_pivots.old dest_edges.old }
     ensures pivots { dest_pivots.new ≡ cut_leaves_pivots false pivots.now edges.now key.now dest_pivots.old dest_edges.old }
     ensures edges { dest_edges.new ≡ cut_leaves_edges false pivots.now edges.now key.now dest_pivots.old dest_edges.old }

@@ -3,21 +3,12 @@ use mathlib.Core.Path.{◌≡◌, refl, ◌∙◌}
 use mathlib.Core.List.{List, [], ◌∷◌, ◌++◌}
 use Prim.Native.Nat.{ℕ, zero, suc, ◌+◌, ◌*◌, ◌/◌, ◌%◌, ◌≤◌, ◌<◌, min}
 use native.Mathlib.Omega.{arith}
-use borrow.Author.Tests.{lt-ltb, le-ltb}
-use lib.ListN.{length, take, drop, get_or, set, length-set}
+use lib.ListN.{length, take, drop, get_or, set}
 use Rattle.model.specs.keys.Key.{Key}
 use Rattle.model.specs.inner.Written.{into}
 use Rattle.model.specs.list.ShelfList.{digit, hex}
 use Rattle.model.proofs.list.Length.{hex_length}
 use Rattle.copies.proofs.Turns.{copy_turn, copy_end}
-
-pub digit_low : (d : ℕ) → d < 10 → 48 + d ≡ digit d
-unfolding digit
-digit_low d h = rw (lt-ltb d 10 h)
-
-pub digit_high : (d : ℕ) → 10 ≤ d → 87 + d ≡ digit d
-unfolding digit
-digit_high d h = rw (le-ltb d 10 h)
 
 -- ---- the digits of a key
 
@@ -75,9 +66,6 @@ module _ (k : Key) (d₀ d : List ℕ) (i : ℕ) (h : d ≡ take i (hex k) ++ dr
 
 -- both digits of a byte a turn, where all have room
 module _ (k : Key) (d₀ d : List ℕ) (i : ℕ) (r : length k * 2 ≤ length d₀) where
-  pub pair_room_lem : (v : ℕ) → i < length k → length d ≡ length d₀ → 2 * i + 1 < length (set d (2 * i) v)
-  pair_room_lem v p e = rw length-set (omega arith)
-
   pub pair_turn : (b v w : ℕ) → d ≡ take (2 * i) (hex k) ++ drop (2 * i) d₀ → b ≡ get_or k i 0 → v ≡ digit (b / 16) → w ≡ digit (b % 16)
       → i < length k → set (set d (2 * i) v) (2 * i + 1) w ≡ take (2 * (i + 1)) (hex k) ++ drop (2 * (i + 1)) d₀
   pair_turn b v w h e f g p =

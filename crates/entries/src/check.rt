@@ -6,17 +6,14 @@ ghost use Rattle.model.specs.calls.Refusals.{answer};
 ghost use Rattle.model.specs.calls.BucketCalls.{not_entry_count, entries_read, bucket_causes};
 
 use crate::entry::entry_at;
-use model::{Answer, ENTRY_SIZE, MAX_ENTRIES, RECORD_SIZE, Refusal};
+use model::{ENTRY_SIZE, MAX_ENTRIES, RECORD_SIZE, Refusal};
 
 // Whether a slice isn't whole entries, or more than a bucket may have.
+#[tactic(auto, using(crate::proofs::Rules::not_entry_count))]
 fn not_entry_count(bucket: &[u8]) -> bool
     ensures { result ≡ not_entry_count bucket.now }
 {
-    let count = bucket.len() / ENTRY_SIZE;
-    if bucket.len() % ENTRY_SIZE != 0 {
-        return true;
-    }
-    MAX_ENTRIES < count
+    bucket.len() % ENTRY_SIZE != 0 || MAX_ENTRIES < bucket.len() / ENTRY_SIZE
 }
 
 // Whether an entry's record is a key's.
@@ -28,32 +25,28 @@ fn entry_reads(entry: &[u8]) -> bool
 }
 
 // Whether each entry's record is a key's.
+#[tactic(auto, using(crate::proofs::Rules::entries_read))]
 fn entries_read(bucket: &[u8]) -> bool
     ensures { result ≡ entries_read (entry_bytes bucket.now) }
 {
-    let count = bucket.len() / ENTRY_SIZE;
-    let mut i = 0;
-    while i < count {
+    for i in 0..bucket.len() / ENTRY_SIZE {
         if !entry_reads(entry_at(bucket, i)) {
             return false;
         }
-        i += 1;
     }
     true
 }
 
 // Causes 1 and 2 of a bucket; else the count of its entries. The caller says whether another argument has cause 2.
-pub fn check_bucket(bucket: &[u8], wrong: bool) -> Answer
+#[tactic(auto, using(crate::proofs::Rules::check_bucket), unfolding(model::specs::calls::BucketCalls::bucket_causes))]
+pub fn check_bucket(bucket: &[u8], wrong: bool) -> Result<usize, Refusal>
     ensures { result ≡ answer (bucket_causes wrong bucket.now) (length bucket.now / entry_size) }
 {
     if not_entry_count(bucket) {
-        return Answer::Refused(Refusal::Shape);
+        return Err(Refusal::Shape);
     }
-    if wrong {
-        return Answer::Refused(Refusal::Malformed);
+    if wrong || !entries_read(bucket) {
+        return Err(Refusal::Malformed);
     }
-    if !entries_read(bucket) {
-        return Answer::Refused(Refusal::Malformed);
-    }
-    Answer::Value(bucket.len() / ENTRY_SIZE)
+    Ok(bucket.len() / ENTRY_SIZE)
 }

@@ -6,6 +6,7 @@ ghost use Rattle.model.specs.buckets.Bucket.{entry_of};
 use model::RECORD_SIZE;
 
 // The part of an entry that its key fills. Nothing is checked.
+#[tactic(auto, using(crate::proofs::Rules::key_of))]
 pub fn key_of(entry: &[u8]) -> &[u8]
     ensures { result.now ≡ (entry_of entry.now).key }
 {

@@ -1,4 +1,5 @@
 -- The ways out of the check of pivots and a bucket: causes 1, 2, 3 and 14.
+use Rattle.std.specs.Prelude.{Result, Ok, Err}
 use mathlib.Core.Path.{◌≡◌, refl, ap, ◌∙◌}
 use mathlib.Core.Bool.{Bool, true, false, not}
 use mathlib.Core.List.{List}
@@ -6,8 +7,6 @@ use mathlib.Core.Option.{none}
 use Prim.Native.Nat.{ℕ}
 use Rattle.model.specs.declared.Refusal.{Refusal}
 use Rattle.model.specs.declared.Refusal.TheVariants.{EntriesUnsorted}
-use Rattle.model.specs.declared.Answer.{Answer}
-use Rattle.model.specs.declared.Answer.TheVariants.{Value, Refused}
 use Rattle.model.specs.buckets.Bucket.{entry_bytes, entries, entries_rise}
 use Rattle.model.specs.calls.Refusals.{outcome, paired, first, answer}
 use Rattle.model.specs.calls.TableCalls.{pivot_causes}
@@ -27,19 +26,19 @@ module _ (wrong : Bool) (p l : List ℕ) where
   in_step_lem = refl
 
   -- so the earlier refusal of the two checks is that of both
-  pub both_checked : (x a b : Answer) (m n : ℕ) → a ≡ answer (pivot_causes false wrong p) m → b ≡ answer (bucket_causes false l) n
+  pub both_checked : (x a b : Result ℕ Refusal) (m n : ℕ) → a ≡ answer (pivot_causes false wrong p) m → b ≡ answer (bucket_causes false l) n
       → x ≡ earlier a b → x ≡ answer (paired (pivot_causes false wrong p) (bucket_causes false l)) m
   both_checked x a b m n g h i = told_earlier (pivot_causes false wrong p) (bucket_causes false l) m n x a b in_step_lem g h i
 
 -- ---- cause 14 behind them
 
-module _ (wrong : Bool) (p l : List ℕ) (a : Answer) (m : ℕ) (e : a ≡ answer (paired (pivot_causes false wrong p) (bucket_causes false l)) m) where
+module _ (wrong : Bool) (p l : List ℕ) (a : Result ℕ Refusal) (m : ℕ) (e : a ≡ answer (paired (pivot_causes false wrong p) (bucket_causes false l)) m) where
   -- a refusal of both is handed on
-  pub both_refuse : (r : Refusal) (x : Answer) (v : ℕ) → a ≡ Refused r → x ≡ Refused r → x ≡ answer (rising_causes wrong p l) v
+  pub both_refuse : (r : Refusal) (x : Result ℕ Refusal) (v : ℕ) → a ≡ Err r → x ≡ Err r → x ≡ answer (rising_causes wrong p l) v
   unfolding rising_causes
-  both_refuse r x v f g = refused_first Refused (Value v) x (paired (pivot_causes false wrong p) (bucket_causes false l)) _ r (refused (paired (pivot_causes false wrong p) (bucket_causes false l)) m a e r f) g
+  both_refuse r x v f g = refused_first Err (Ok v) x (paired (pivot_causes false wrong p) (bucket_causes false l)) _ r (refused (paired (pivot_causes false wrong p) (bucket_causes false l)) m a e r f) g
 
-  module _ (n : ℕ) (f : a ≡ Value n) where
+  module _ (n : ℕ) (f : a ≡ Ok n) where
     none_of_both : first (paired (pivot_causes false wrong p) (bucket_causes false l)) ≡ none
     none_of_both = accepted (paired (pivot_causes false wrong p) (bucket_causes false l)) m a e n f
 
@@ -48,12 +47,12 @@ module _ (wrong : Bool) (p l : List ℕ) (a : Answer) (m : ℕ) (e : a ≡ answe
 
     -- else 14 decides
     module _ (t : Bool) (g : t ≡ entries_rise (entries l)) where
-      pub unsorted : not t ≡ true → (v : ℕ) → Refused EntriesUnsorted ≡ answer (rising_causes wrong p l) v
+      pub unsorted : not t ≡ true → (v : ℕ) → Err EntriesUnsorted ≡ answer (rising_causes wrong p l) v
       unfolding rising_causes
-      unsorted k v = after Refused (Value v) (Refused EntriesUnsorted) (paired (pivot_causes false wrong p) (bucket_causes false l)) _ none_of_both (unfold outcome in (rw (← g, k)))
+      unsorted k v = after Err (Ok v) (Err EntriesUnsorted) (paired (pivot_causes false wrong p) (bucket_causes false l)) _ none_of_both (unfold outcome in (rw (← g, k)))
 
       pub rises : not t ≡ false → a ≡ answer (rising_causes wrong p l) m
       unfolding rising_causes
       rises k =
-          after Refused (Value m) a (paired (pivot_causes false wrong p) (bucket_causes false l)) _ none_of_both
-          (unfold outcome in (rw (← g, k) (f ∙ ap Value (value_is (paired (pivot_causes false wrong p) (bucket_causes false l)) m a e n f))))
+          after Err (Ok m) a (paired (pivot_causes false wrong p) (bucket_causes false l)) _ none_of_both
+          (unfold outcome in (rw (← g, k) (f ∙ ap Ok (value_is (paired (pivot_causes false wrong p) (bucket_causes false l)) m a e n f))))

@@ -6,15 +6,13 @@ use Prim.Native.Nat.{ℕ, ◌+◌, ◌*◌, ◌-◌, ◌/◌, ◌≤◌, ◌<◌
 use native.Mathlib.Nat.{add-sub_cancel_left}
 use native.Mathlib.Omega.{arith}
 use borrow.Author.Tests.{ne_eqb}
-use lib.IntN.{ℤ, pos}
 use lib.ListN.{length, take, drop, get_or}
 use lib.Seq.{take-take, length-take-le}
-use lib.Signed.{lt_z}
-use mir.Syntax.{w64}
-use mir.Val.{to_z, of_z}
+use Rattle.std.specs.Ordering.{is_lt}
+use Rattle.std.specs.declared.cmp.Ordering.{Ordering}
 use Rattle.model.specs.declared.Reading.{Reading}
 use Rattle.model.specs.declared.Reading.TheVariants as reads
-use Rattle.model.specs.keys.Order.{key, lt}
+use Rattle.model.specs.keys.Order.{key, lt, sign}
 use Rattle.model.specs.records.Record.{record_size, max_mark, length_field, reading, key_reading, element_reading, element, key_bytes}
 use Rattle.model.specs.inner.Places.{entry_at}
 use Rattle.model.specs.buckets.Bucket.{Entry, entry_size, entry_record, entry_of, entry_bytes, entry_bytes_by, entries}
@@ -69,10 +67,10 @@ module _ (l : List ℕ) (w : entries_read (entry_bytes l) ≡ true) (i : ℕ) (h
       (as_element (entry_record (entry_at l i)) read_here).1 ∙ ap (λ (x : Entry). key x.key) (sym e)
 
 -- two records are told apart by what stands at their places
-module _ (l : List ℕ) (w : entries_read (entry_bytes l) ≡ true) (a b : List ℕ) (i : ℕ) (f : a ≡ entry_record (entry_at l i)) (z : ℤ) (e : z ≡ padded_order a b) where
-  pub below_told : i < length l / entry_size → Padded b → lt_z (to_z w64 (of_z w64 z)) (pos 0) ≡ lt (element (entry_record (entry_at l i))) (element b)
-  below_told h p = rw (← f) (padded_below a b (padded_here l w i h a f) p z e)
+module _ (l : List ℕ) (w : entries_read (entry_bytes l) ≡ true) (a b : List ℕ) (i : ℕ) (f : a ≡ entry_record (entry_at l i)) (o : Ordering) (e : sign o ≡ padded_order a b) where
+  pub below_told : i < length l / entry_size → Padded b → is_lt o ≡ lt (element (entry_record (entry_at l i))) (element b)
+  below_told h p = rw (← f) (padded_below a b (padded_here l w i h a f) p o e)
 
   pub next_told : i + 1 < length l / entry_size → b ≡ entry_record (entry_at l (i + 1))
-      → lt_z (to_z w64 (of_z w64 z)) (pos 0) ≡ lt (element (entry_record (entry_at l i))) (element (entry_record (entry_at l (i + 1))))
+      → is_lt o ≡ lt (element (entry_record (entry_at l i))) (element (entry_record (entry_at l (i + 1))))
   next_told h g = rw (← g) (below_told (omega arith) (padded_here l w (i + 1) h b g))

@@ -1,3 +1,4 @@
 pub mod Entries
 pub mod Rise
 pub mod Checks
+pub mod Rules

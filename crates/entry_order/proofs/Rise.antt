@@ -2,7 +2,7 @@
 use mathlib.Core.Path.{◌≡◌, refl, sym, ◌∙◌}
 use mathlib.Core.Bool.{Bool, true, false, not, ◌&&◌}
 use mathlib.Core.List.{List, [], ◌∷◌}
-use Prim.Native.Nat.{ℕ, suc, ◌+◌, ◌/◌, ◌≤◌, ◌<◌}
+use Prim.Native.Nat.{ℕ, suc, ◌+◌, ◌-◌, ◌/◌, ◌≤◌, ◌<◌}
 use native.Mathlib.Numerals.{add-one}
 use native.Mathlib.Omega.{arith}
 use borrow.Author.Tests.{not-true, not-false}
@@ -32,11 +32,14 @@ rise_on b i d h = rw (drop-cons b i d (omega arith), add-one i, drop-cons b (suc
 -- the entries rise if those from i on do
 module _ (l : List ℕ) (w : entries_read (entry_bytes l) ≡ true) (i : ℕ) (r : entries_rise (entries l) ≡ entries_rise (drop i (entries l))) where
   -- at the end they do
-  pub rise_over : length l / entry_size ≤ i + 1 → true ≡ entries_rise (entries l)
-  rise_over h = rw r (sym (rise_short (drop i (entries l)) (omega (arith, length-drop i (entries l), length_entries l))))
+  pub rise_over : (n : ℕ) → n ≡ length l / entry_size - 1 → n ≤ i → true ≡ entries_rise (entries l)
+  rise_over n e h = rw r (sym (rise_short (drop i (entries l)) (omega (arith, length-drop i (entries l), length_entries l))))
 
-  module _ (h : i + 1 < length l / entry_size) (t : Bool)
+  module _ (n : ℕ) (e : n ≡ length l / entry_size - 1) (before : i < n) (t : Bool)
       (g : t ≡ lt (element (entry_record (entry_at l i))) (element (entry_record (entry_at l (i + 1))))) where
+    h : i + 1 < length l / entry_size
+    h = omega arith
+
     here_rises : (d : Entry) → entries_rise (entries l) ≡ (t && entries_rise (drop (i + 1) (entries l)))
     here_rises d =
         r

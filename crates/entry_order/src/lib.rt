@@ -11,9 +11,10 @@ ghost use Rattle.model.specs.calls.TableCalls.{pivot_causes};
 ghost use Rattle.model.specs.calls.BucketCalls.{entries_read, bucket_causes};
 ghost use Rattle.entry_order.specs.Rising.{rising_causes};
 
-use model::{Answer, ENTRY_SIZE, RECORD_SIZE, Refusal};
+use model::{ENTRY_SIZE, RECORD_SIZE, Refusal};
 
 // The record at the head of the entry at a place; an empty part where there are fewer.
+#[tactic(auto, using(crate::proofs::Rules::record_at))]
 pub fn record_at(bucket: &[u8], i: usize) -> &[u8]
     ensures { result.now ≡ entry_record (entry_at bucket.now i) }
 {
@@ -26,31 +27,32 @@ pub fn record_at(bucket: &[u8], i: usize) -> &[u8]
 }
 
 // Whether the entry at a place is below the next.
+#[tactic(auto, using(crate::proofs::Rules::rises_at))]
 fn rises_at(bucket: &[u8], i: usize) -> bool
     requires { (entries_read (entry_bytes bucket.now) ≡ true) × (i + 1 < length bucket.now / entry_size) }
     ensures { result ≡ lt (element (entry_record (entry_at bucket.now i))) (element (entry_record (entry_at bucket.now (i + 1)))) }
 {
-    keys::compare_padded(record_at(bucket, i), record_at(bucket, i + 1)) < 0
+    keys::compare_padded(record_at(bucket, i), record_at(bucket, i + 1)).is_lt()
 }
 
 // Whether the entries rise.
+#[tactic(auto, using(crate::proofs::Rules::entries_rise))]
 fn entries_rise(bucket: &[u8]) -> bool
     requires { entries_read (entry_bytes bucket.now) ≡ true }
     ensures { result ≡ entries_rise (entries bucket.now) }
 {
     let count = bucket.len() / ENTRY_SIZE;
-    let mut i = 0;
-    while i + 1 < count {
+    for i in 0..count.saturating_sub(1) {
         if !rises_at(bucket, i) {
             return false;
         }
-        i += 1;
     }
     true
 }
 
 // Causes 1, 2 and 3 of pivots and bucket, by number over both; else the count of pivots.
-fn check_both(pivots: &[u8], bucket: &[u8], wrong: bool) -> Answer
+#[tactic(auto, using(crate::proofs::Rules::check_both))]
+fn check_both(pivots: &[u8], bucket: &[u8], wrong: bool) -> Result<usize, Refusal>
     ensures { result ≡ answer (paired (pivot_causes false wrong pivots.now) (bucket_causes false bucket.now)) (length pivots.now / record_size) }
 {
     let first = pivot_checks::check_pivots(pivots, false, wrong);
@@ -59,15 +61,13 @@ fn check_both(pivots: &[u8], bucket: &[u8], wrong: bool) -> Answer
 }
 
 // Causes 1, 2, 3 and 14; else the count of pivots. The caller says whether another argument has cause 2.
-pub fn check_rising(pivots: &[u8], bucket: &[u8], wrong: bool) -> Answer
+#[tactic(auto, using(crate::proofs::Rules::check_rising))]
+pub fn check_rising(pivots: &[u8], bucket: &[u8], wrong: bool) -> Result<usize, Refusal>
     ensures { result ≡ answer (rising_causes wrong pivots.now bucket.now) (length pivots.now / record_size) }
 {
-    let checked = check_both(pivots, bucket, wrong);
-    let Answer::Value(_) = checked else {
-        return checked;
-    };
+    let count = check_both(pivots, bucket, wrong)?;
     if !entries_rise(bucket) {
-        return Answer::Refused(Refusal::EntriesUnsorted);
+        return Err(Refusal::EntriesUnsorted);
     }
-    checked
+    Ok(count)
 }

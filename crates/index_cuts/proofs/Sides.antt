@@ -1,4 +1,5 @@
 -- One side of a cut: what it has of the bucket and of the index lent, and what is answered and left.
+use Rattle.std.specs.Prelude.{Result, Ok, Err}
 use mathlib.Core.Path.{◌≡◌, refl, ap, ◌∙◌}
 use mathlib.Core.Bool.{Bool, true, false}
 use mathlib.Core.List.{List, map}
@@ -10,8 +11,6 @@ use mir.Val.{Fits}
 use lib.ListN.{length, take, drop, get_or, length-drop}
 use lib.Seq.{length-take-le}
 use Rattle.model.specs.declared.Refusal.{Refusal}
-use Rattle.model.specs.declared.Answer.{Answer}
-use Rattle.model.specs.declared.Answer.TheVariants as answers
 use Rattle.model.specs.keys.Key.{too_long}
 use Rattle.model.specs.keys.Order.{key}
 use Rattle.model.specs.records.Record.{elements}
@@ -47,13 +46,13 @@ slot_there : (left : Bool) (p k : List ℕ) → WFPivots (elements p) ≡ true �
 slot_there true p k w i = cutoff_left_inside (elements p) k w i
 slot_there false p k w i = rw (cutoff_right_is_route (elements p) k) (route_inside (elements p) k w i)
 
-module _ (left : Bool) (p l x k : List ℕ) (c : ℕ) (a : Answer) (i : inside left (elements p) k ≡ true) (f : c ≡ cutoff left (elements p) k)
+module _ (left : Bool) (p l x k : List ℕ) (c : ℕ) (a : Result ℕ Refusal) (i : inside left (elements p) k ≡ true) (f : c ≡ cutoff left (elements p) k)
     (q : a ≡ answer (given_causes (too_long k) false p l x) (length (entries_below (key k) (entries l)))) where
   -- the check's refusal is the cut's
-  pub side_refused : {A : Type 0} (g : Refusal → A) (v z : A) (db dx : List ℕ) (r : Refusal) → a ≡ answers.Refused r → z ≡ g r → z ≡ outcome g (cut_index_causes left p l x k db dx) v
+  pub side_refused : {A : Type 0} (g : Refusal → A) (v z : A) (db dx : List ℕ) (r : Refusal) → a ≡ Err r → z ≡ g r → z ≡ outcome g (cut_index_causes left p l x k db dx) v
   side_refused g v z db dx r h e = rw i (refused_first g v z (given_causes (too_long k) false p l x) _ r (refused _ _ a q r h) e)
 
-  module _ (n : ℕ) (h : a ≡ answers.Value n) where
+  module _ (n : ℕ) (h : a ≡ Ok n) where
     given : first (given_causes (too_long k) false p l x) ≡ none
     given = accepted _ _ a q n h
 
@@ -136,10 +135,10 @@ module _ (left : Bool) (p l x k : List ℕ) (c : ℕ) (a : Answer) (i : inside l
       same_causes : {A : Type 0} (g : Refusal → A) (v : A) → outcome g (room_causes (length e) (length y) db dx) v ≡ outcome g (cut_index_causes left p l x k db dx) v
       same_causes g v = rw (i, s.count, s.size) (after g v _ (given_causes (too_long k) false p l x) _ given refl)
 
-      pub side_answered : (z : Answer) → z ≡ answer (room_causes (length e) (length y) db dx) (length e / entry_size) → z ≡ cut_index_answer left p l x k db dx
+      pub side_answered : (z : Result ℕ Refusal) → z ≡ answer (room_causes (length e) (length y) db dx) (length e / entry_size) → z ≡ cut_index_answer left p l x k db dx
       side_answered z u =
           let m : length e / entry_size ≡ length (cut_entries left l k) = omega (arith, s.count) in
-          u ∙ rw m (same_causes answers.Refused (answers.Value (length (cut_entries left l k))))
+          u ∙ rw m (same_causes Err (Ok (length (cut_entries left l k))))
 
       pub side_bucket : (w : List ℕ) → w ≡ leaves (room_causes (length e) (length y) db dx) e db → w ≡ cut_index_leaves_bucket left p l x k db dx
       side_bucket w u = u ∙ rw s.bytes (same_causes (λ (r : Refusal). db) _)

@@ -2,16 +2,16 @@
 ghost use Rattle.std.specs.Prelude.{◌≡◌, true, false};
 ghost use Rattle.model.specs.records.Record.{elements};
 ghost use Rattle.model.specs.cuts.Sides.{inside, cutoff};
-ghost use Rattle.model.specs.calls.Refusals.{routing};
+ghost use Rattle.model.specs.calls.Refusals.{answer};
 ghost use Rattle.model.specs.calls.TableCalls.{slot_causes};
 ghost use Rattle.model.specs.calls.IndexCalls.{cut_index_answer, cut_index_leaves_bucket, cut_index_leaves_index};
 
 use index_writes::write_side;
-use model::{Answer, ENTRY_SIZE, MAX_LEN, PLACE_SIZE, Routed};
+use model::{ENTRY_SIZE, MAX_LEN, PLACE_SIZE, Refusal};
 
 // The slot in which a left or a right cut at the key falls. Refuses 1, 2, 3 and 5.
-fn cut_slot(pivots: &[u8], k: &[u8], left: bool) -> Routed
-    ensures { result ≡ routing (slot_causes pivots.now k.now (inside left (elements pivots.now) k.now)) (cutoff left (elements pivots.now) k.now) }
+fn cut_slot(pivots: &[u8], k: &[u8], left: bool) -> Result<usize, Refusal>
+    ensures { result ≡ answer (slot_causes pivots.now k.now (inside left (elements pivots.now) k.now)) (cutoff left (elements pivots.now) k.now) }
 {
     if left {
         return routing::cutoff_for_left(pivots, k);
@@ -20,6 +20,7 @@ fn cut_slot(pivots: &[u8], k: &[u8], left: bool) -> Routed
 }
 
 // A cut in slot c. The left takes the places up to that of the slot's end, the right those from its beginning on.
+#[tactic(auto, using(crate::proofs::Rules::cut_at))]
 fn cut_at(
     pivots: &[u8],
     bucket: &[u8],
@@ -29,16 +30,13 @@ fn cut_at(
     left: bool,
     dest_bucket: &mut [u8],
     dest_index: &mut [u8],
-) -> Answer
+) -> Result<usize, Refusal>
     requires { (inside left (elements pivots.now) k.now ≡ true) × (c ≡ cutoff left (elements pivots.now) k.now) }
     ensures answered { result ≡ cut_index_answer left pivots.now bucket.now index.now k.now dest_bucket.old dest_index.old }
     ensures bucket { dest_bucket.new ≡ cut_index_leaves_bucket left pivots.now bucket.now index.now k.now dest_bucket.old dest_index.old }
     ensures index { dest_index.new ≡ cut_index_leaves_index left pivots.now bucket.now index.now k.now dest_bucket.old dest_index.old }
 {
-    let checked = indexes::check_side(pivots, bucket, index, k, false);
-    let Answer::Value(n) = checked else {
-        return checked;
-    };
+    let n = indexes::check_side(pivots, bucket, index, k, false)?;
     let cut = n * ENTRY_SIZE;
     if left {
         let end = (c + 2) * PLACE_SIZE;
@@ -63,6 +61,7 @@ fn cut_at(
 }
 
 // A cut at the key, on the left or on the right.
+#[tactic(auto, using(crate::proofs::Rules::cut))]
 fn cut(
     pivots: &[u8],
     bucket: &[u8],
@@ -71,17 +70,15 @@ fn cut(
     left: bool,
     dest_bucket: &mut [u8],
     dest_index: &mut [u8],
-) -> Answer
+) -> Result<usize, Refusal>
     ensures answered { result ≡ cut_index_answer left pivots.now bucket.now index.now k.now dest_bucket.old dest_index.old }
     ensures bucket { dest_bucket.new ≡ cut_index_leaves_bucket left pivots.now bucket.now index.now k.now dest_bucket.old dest_index.old }
     ensures index { dest_index.new ≡ cut_index_leaves_index left pivots.now bucket.now index.now k.now dest_bucket.old dest_index.old }
 {
     match cut_slot(pivots, k, left) {
-        Routed::Slot(c) => cut_at(pivots, bucket, index, k, c, left, dest_bucket, dest_index),
+        Ok(c) => cut_at(pivots, bucket, index, k, c, left, dest_bucket, dest_index),
         // A cause of pivots and key is told, or the key's 5, which comes behind the bucket's 1, 2 and 14.
-        Routed::Refused(_) => {
-            indexes::check_given(pivots, bucket, index, MAX_LEN < k.len(), true)
-        }
+        Err(_) => { indexes::check_given(pivots, bucket, index, MAX_LEN < k.len(), true) }
     }
 }
 
@@ -94,7 +91,7 @@ pub fn cut_index_left(
     key: &[u8],
     dest_bucket: &mut [u8],
     dest_index: &mut [u8],
-) -> Answer
+) -> Result<usize, Refusal>
     ensures answered { result ≡ cut_index_answer true pivots.now bucket.now index.now key.now dest_bucket.old dest_index.old }
     ensures bucket { dest_bucket.new ≡ cut_index_leaves_bucket true pivots.now bucket.now index.now key.now dest_bucket.old dest_index.old }
     ensures index { dest_index.new ≡ cut_index_leaves_index true pivots.now bucket.now index.now key.now dest_bucket.old dest_index.old }
@@ -111,7 +108,7 @@ pub fn cut_index_right(
     key: &[u8],
     dest_bucket: &mut [u8],
     dest_index: &mut [u8],
-) -> Answer
+) -> Result<usize, Refusal>
     ensures answered { result ≡ cut_index_answer false pivots.now bucket.now index.now key.now dest_bucket.old dest_index.old }
     ensures bucket { dest_bucket.new ≡ cut_index_leaves_bucket false pivots.now bucket.now index.now key.now dest_bucket.old dest_index.old }
     ensures index { dest_index.new ≡ cut_index_leaves_index false pivots.now bucket.now index.now key.now dest_bucket.old dest_index.old }

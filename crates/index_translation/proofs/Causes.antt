@@ -1,4 +1,5 @@
 -- What translate_index answers and leaves, by what its steps do: the check, the room of the index, the bucket's translation, and the new places.
+use Rattle.std.specs.Prelude.{Result, Ok, Err}
 use mathlib.Core.Path.{◌≡◌, refl, sym, ap, ◌∙◌}
 use mathlib.Core.Bool.{Bool, true, false, cond, not, ◌||◌, or-true, or-false}
 use mathlib.Core.List.{List, [], ◌∷◌, map}
@@ -9,15 +10,11 @@ use borrow.Author.Tests.{lt-ltb, le-ltb}
 use lib.ListN.{length, take}
 use Rattle.model.specs.declared.Refusal.{Refusal}
 use Rattle.model.specs.declared.Refusal.TheVariants.{TooLong, NoRoom}
-use Rattle.model.specs.declared.Answer.{Answer}
-use Rattle.model.specs.declared.Answer.TheVariants.{Value, Refused}
-use Rattle.model.specs.declared.Decided.{Decided}
-use Rattle.model.specs.declared.Decided.TheVariants as decided
 use Rattle.model.specs.keys.Key.{Key, too_long}
 use Rattle.model.specs.records.Record.{elements}
 use Rattle.model.specs.buckets.Bucket.{entry_size, entries, encode_bucket, TranslateBucket}
 use Rattle.model.specs.buckets.Index.{Index, TranslateIndex, place_size, encode_index, places}
-use Rattle.model.specs.calls.Refusals.{◌⇒◌, outcome, first, answer, yes_or_no, over}
+use Rattle.model.specs.calls.Refusals.{◌⇒◌, outcome, first, answer, over}
 use Rattle.model.specs.calls.KeyCalls.{no_room}
 use Rattle.model.specs.calls.CutCalls.{room_causes}
 use Rattle.model.specs.calls.BucketCalls.{bucket_causes, new_bucket, needed_bytes, bucket_long, bucket_full, rename_causes, translate_bucket_causes, translate_bucket_answer, translate_bucket_leaves, will_fit_answer}
@@ -36,15 +33,15 @@ use Rattle.index_translation.proofs.Counting.{kept_is}
 -- ---- the index has no room
 
 -- 10 where it would fit, 8 where it wouldn't, and no other refusal
-ten_is : (t : Bool) (x : Decided) → x ≡ yes_or_no (not t) → x ≡ decided.Yes → Refused NoRoom ≡ Refused (cond t TooLong NoRoom)
+ten_is : (t : Bool) (x : Result Bool Refusal) → x ≡ Ok (not t) → x ≡ Ok true → NoRoom ≡ cond t TooLong NoRoom
 ten_is true x e u = let z : ◌≡◌ {A = ℕ} 0 1 = cc in absurd (omega arith)
 ten_is false x e u = refl
 
-eight_is : (t : Bool) (x : Decided) → x ≡ yes_or_no (not t) → x ≡ decided.No → Refused TooLong ≡ Refused (cond t TooLong NoRoom)
+eight_is : (t : Bool) (x : Result Bool Refusal) → x ≡ Ok (not t) → x ≡ Ok false → TooLong ≡ cond t TooLong NoRoom
 eight_is true x e u = refl
 eight_is false x e u = let z : ◌≡◌ {A = ℕ} 0 1 = cc in absurd (omega arith)
 
-none_is : (t : Bool) (x : Decided) (r : Refusal) → x ≡ yes_or_no (not t) → x ≡ decided.Refused r → Refused r ≡ Refused (cond t TooLong NoRoom)
+none_is : (t : Bool) (x : Result Bool Refusal) (r : Refusal) → x ≡ Ok (not t) → x ≡ Err r → r ≡ cond t TooLong NoRoom
 none_is true x r e u = let z : ◌≡◌ {A = ℕ} 0 1 = cc in absurd (omega arith)
 none_is false x r e u = let z : ◌≡◌ {A = ℕ} 0 1 = cc in absurd (omega arith)
 
@@ -56,21 +53,21 @@ module _ (l : List ℕ) (p q : Key) (h : first (rename_causes l p q) ≡ none) w
       let w = (translated_wft (entries l) p q 0 (omega arith)).at_most in
       le-ltb (length l) (length (new_bucket l p q) * entry_size) (omega (arith, bucket_count _ l h, bucket_whole _ l h))
 
-  module _ (x : Decided) (f : x ≡ will_fit_answer l p q (length l)) where
+  module _ (x : Result Bool Refusal) (f : x ≡ will_fit_answer l p q (length l)) where
     -- so it fits where no kept key is too long
-    fit_is : x ≡ yes_or_no (not (bucket_long l p q))
+    fit_is : x ≡ Ok (not (bucket_long l p q))
     fit_is =
-        let v = yes_or_no (not (bucket_long l p q || bucket_full l p q (length l))) in
-        let u : x ≡ v = f ∙ sym (passed decided.Refused v v (rename_causes l p q) h refl) in
+        let v = Ok (not (bucket_long l p q || bucket_full l p q (length l))) in
+        let u : x ≡ v = f ∙ sym (passed Err v v (rename_causes l p q) h refl) in
         u ∙ rw (enough, or-false)
 
-    pub fits_ten : x ≡ decided.Yes → Refused NoRoom ≡ Refused (cond (bucket_long l p q) TooLong NoRoom)
+    pub fits_ten : x ≡ Ok true → NoRoom ≡ cond (bucket_long l p q) TooLong NoRoom
     fits_ten u = ten_is (bucket_long l p q) x fit_is u
 
-    pub fits_eight : x ≡ decided.No → Refused TooLong ≡ Refused (cond (bucket_long l p q) TooLong NoRoom)
+    pub fits_eight : x ≡ Ok false → TooLong ≡ cond (bucket_long l p q) TooLong NoRoom
     fits_eight u = eight_is (bucket_long l p q) x fit_is u
 
-    pub fits_refused : (r : Refusal) → x ≡ decided.Refused r → Refused r ≡ Refused (cond (bucket_long l p q) TooLong NoRoom)
+    pub fits_refused : (r : Refusal) → x ≡ Err r → r ≡ cond (bucket_long l p q) TooLong NoRoom
     fits_refused r u = none_is (bucket_long l p q) x r fit_is u
 
 -- ---- the check
@@ -80,15 +77,15 @@ kept_all : (l : List ℕ) (p q : Key) (ns : List ℕ) → map (kept_before l p) 
 kept_all l p q [] = refl
 kept_all l p q (n ∷ ns) = rw (kept_is l p q n) (ap (◌∷◌ (length (TranslateBucket (take n (entries l)) p q))) (kept_all l p q ns))
 
-module _ (p l x : List ℕ) (old new : Key) (wrong : Bool) (e : wrong ≡ (too_long old || too_long new)) (a : Answer) (f : a ≡ answer (given_causes wrong false p l x) (length (entries l))) where
+module _ (p l x : List ℕ) (old new : Key) (wrong : Bool) (e : wrong ≡ (too_long old || too_long new)) (a : Result ℕ Refusal) (f : a ≡ answer (given_causes wrong false p l x) (length (entries l))) where
   checked : a ≡ answer (given_causes (too_long old || too_long new) false p l x) (length (entries l))
   checked = rw e at f
 
   -- its refusal is handed on
-  pub check_refused : {A : Type 0} (o : Refusal → A) (v z : A) (db dx : List ℕ) (r : Refusal) → a ≡ Refused r → z ≡ o r → z ≡ outcome o (translate_index_causes p l x old new db dx) v
+  pub check_refused : {A : Type 0} (o : Refusal → A) (v z : A) (db dx : List ℕ) (r : Refusal) → a ≡ Err r → z ≡ o r → z ≡ outcome o (translate_index_causes p l x old new db dx) v
   check_refused o v z db dx r h g = handed_on-first (given_causes (too_long old || too_long new) false p l x) (length (entries l)) a checked o v z _ r h g
 
-  module _ (m : ℕ) (h : a ≡ Value m) where
+  module _ (m : ℕ) (h : a ≡ Ok m) where
     given : first (given_causes (too_long old || too_long new) false p l x) ≡ none
     given = accepted (given_causes (too_long old || too_long new) false p l x) (length (entries l)) a checked m h
 
@@ -151,17 +148,20 @@ module _ (p l x : List ℕ) (old new : Key) (wrong : Bool) (e : wrong ≡ (too_l
             after o v (outcome o (translate_bucket_causes l old new db) v) (given_causes (too_long old || too_long new) false p l x) _ given
             (sym (after o v (outcome o ds v) (rename_causes l old new) ds given_good refl) ∙ rw (roomy, or-false))
 
-        module _ (b : Answer) (c : b ≡ translate_bucket_answer l old new db) where
+        module _ (b : Result ℕ Refusal) (c : b ≡ translate_bucket_answer l old new db) where
           -- so its answer is handed on
           pub bucket_answers : b ≡ translate_index_answer p l x old new db dx
-          bucket_answers = c ∙ same Refused (Value (length (new_bucket l old new)))
+          bucket_answers = c ∙ same Err (Ok (length (new_bucket l old new)))
+
+          pub bucket_refuses : (r : Refusal) (z : Result ℕ Refusal) → b ≡ Err r → z ≡ Err r → z ≡ translate_index_answer p l x old new db dx
+          bucket_refuses r z u g = g ∙ sym u ∙ bucket_answers
 
           -- a refusal leaves the index as it was
-          pub index_as_before : (r : Refusal) → b ≡ Refused r → dx ≡ translate_index_leaves_index p l x old new db dx
+          pub index_as_before : (r : Refusal) → b ≡ Err r → dx ≡ translate_index_leaves_index p l x old new db dx
           index_as_before r u = handed_on (translate_bucket_causes l old new db) _ b c (λ (_ : Refusal). dx) _ dx r u refl ∙ same (λ (_ : Refusal). dx) _
 
           -- else it is written
-          pub index_written : (n : ℕ) (v : List ℕ) → b ≡ Value n → v ≡ over (encode_index (new_places l old x)) dx → v ≡ translate_index_leaves_index p l x old new db dx
+          pub index_written : (n : ℕ) (v : List ℕ) → b ≡ Ok n → v ≡ over (encode_index (new_places l old x)) dx → v ≡ translate_index_leaves_index p l x old new db dx
           index_written n v u g =
               call_passed (translate_bucket_causes l old new db) _ b c (λ (_ : Refusal). dx) _ v n u (rw new_is at g) ∙ same (λ (_ : Refusal). dx) _
 

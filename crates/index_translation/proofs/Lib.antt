@@ -1,3 +1,4 @@
 pub mod Counting
 pub mod Placing
 pub mod Causes
+pub mod Rules

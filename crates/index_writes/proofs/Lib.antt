@@ -1,2 +1,3 @@
 pub mod Places
 pub mod Room
+pub mod Rules

@@ -1,4 +1,5 @@
 -- The ways out of the checks: causes 5 of pivots and bucket, and 15 of the index, behind 1, 2, 3 and 14.
+use Rattle.std.specs.Prelude.{Result, Ok, Err}
 use mathlib.Core.Path.{◌≡◌, sym, ap}
 use mathlib.Core.Bool.{Bool, true, false, not, ◌||◌}
 use mathlib.Core.List.{List, [], ◌∷◌, ◌++◌, append_assoc}
@@ -11,8 +12,6 @@ use mir.Syntax.{w16, w64}
 use mir.Val.{Fits}
 use Rattle.model.specs.declared.Refusal.{Refusal}
 use Rattle.model.specs.declared.Refusal.TheVariants.{OutOfRange, NoRoom, EntriesUnsorted, WrongIndex}
-use Rattle.model.specs.declared.Answer.{Answer}
-use Rattle.model.specs.declared.Answer.TheVariants.{Value, Refused}
 use Rattle.model.specs.keys.Key.{max_len, too_long, IsPrefix}
 use Rattle.model.specs.keys.Order.{key}
 use Rattle.model.specs.records.Record.{record_of, encode, element, elements}
@@ -53,7 +52,7 @@ given_list : (wrong outside : Bool) (p l x : List ℕ)
 unfolding given_causes
 given_list wrong outside p l x = rw (entries_list wrong outside p l) (append_assoc (rising_causes wrong p l) _ _)
 
-module _ (wrong : Bool) (p l : List ℕ) (a : Answer) (m : ℕ) (e : a ≡ answer (rising_causes wrong p l) m) (n : ℕ) (f : a ≡ Value n) where
+module _ (wrong : Bool) (p l : List ℕ) (a : Result ℕ Refusal) (m : ℕ) (e : a ≡ answer (rising_causes wrong p l) m) (n : ℕ) (f : a ≡ Ok n) where
   none_of_rising : first (rising_causes wrong p l) ≡ none
   none_of_rising = accepted (rising_causes wrong p l) m a e n f
 
@@ -104,11 +103,11 @@ told_inside outside t b h g = rw h g
 
 -- ---- an index that is built
 
-module _ (p l d : List ℕ) (a : Answer) (m : ℕ) (e : a ≡ answer (rising_causes false p l) m) {A : Type 0} (g : Refusal → A) (v x : A) where
-  pub build_refuses : (r : Refusal) → a ≡ Refused r → x ≡ g r → x ≡ outcome g (build_index_causes p l d) v
+module _ (p l d : List ℕ) (a : Result ℕ Refusal) (m : ℕ) (e : a ≡ answer (rising_causes false p l) m) {A : Type 0} (g : Refusal → A) (v x : A) where
+  pub build_refuses : (r : Refusal) → a ≡ Err r → x ≡ g r → x ≡ outcome g (build_index_causes p l d) v
   build_refuses r f k = rw (entries_list false false p l, append_assoc (rising_causes false p l) _ _) (refused_first g v x (rising_causes false p l) _ r (refused (rising_causes false p l) m a e r f) k)
 
-  module _ (n : ℕ) (f : a ≡ Value n) (t : Bool) (h : t ≡ not (entries_inside (elements p) (entries l))) where
+  module _ (n : ℕ) (f : a ≡ Ok n) (t : Bool) (h : t ≡ not (entries_inside (elements p) (entries l))) where
     then_build : x ≡ outcome g ((t ⇒ OutOfRange) ∷ (no_room (length (elements p) * place_size) d ⇒ NoRoom) ∷ []) v → x ≡ outcome g (build_index_causes p l d) v
     then_build k =
         rw (entries_list false false p l, append_assoc (rising_causes false p l) _ _)
@@ -128,9 +127,9 @@ module _ (p l d : List ℕ) (a : Answer) (m : ℕ) (e : a ≡ answer (rising_cau
     room c i o k = then_build (later g v x t OutOfRange _ i (later g v x _ NoRoom [] (le-ltb (length d) (length (elements p) * place_size) (omega (arith, counts c))) (done g v x k)))
 
 -- it answers the count of entries
-pub build_counted : (p l d : List ℕ) (a : Answer) (m : ℕ) → a ≡ answer (rising_causes false p l) m → (n : ℕ) → a ≡ Value n → (t : Bool) → t ≡ not (entries_inside (elements p) (entries l))
-    → m ≡ length p / 66 → t ≡ false → n * 2 ≤ length d → Value (length l / entry_size) ≡ answer (build_index_causes p l d) (length (entries l))
-build_counted p l d a m e n f t h c i o = room p l d a m e Refused (Value (length (entries l))) (Value (length l / entry_size)) n f t h c i o (ap Value (sym (length_entries l)))
+pub build_counted : (p l d : List ℕ) (a : Result ℕ Refusal) (m : ℕ) → a ≡ answer (rising_causes false p l) m → (n : ℕ) → a ≡ Ok n → (t : Bool) → t ≡ not (entries_inside (elements p) (entries l))
+    → m ≡ length p / 66 → t ≡ false → n * 2 ≤ length d → Ok (length l / entry_size) ≡ answer (build_index_causes p l d) (length (entries l))
+build_counted p l d a m e n f t h c i o = room p l d a m e Err (Ok (length (entries l))) (Ok (length l / entry_size)) n f t h c i o (ap Ok (sym (length_entries l)))
 
 -- ---- the index given
 
@@ -160,28 +159,28 @@ module _ (p l x : List ℕ) (h : CheckedBoth p l) where
       let w : take (length p / 66 * 2) b ≡ index_bytes p l = rw (e, ← index_length) (take_over (index_bytes p l) d) in
       rw (eq-eqb (length x) (length (index_bytes p l)) (omega (arith, index_length)), g, w)
 
-module _ (wrong outside : Bool) (p l x : List ℕ) (a : Answer) (m : ℕ) (e : a ≡ answer (rising_causes wrong p l) m) where
+module _ (wrong outside : Bool) (p l x : List ℕ) (a : Result ℕ Refusal) (m : ℕ) (e : a ≡ answer (rising_causes wrong p l) m) where
   -- a refusal of pivots and bucket is handed on
-  pub rising_refuses : (r : Refusal) (y : Answer) (v : ℕ) → a ≡ Refused r → y ≡ Refused r → y ≡ answer (given_causes wrong outside p l x) v
-  rising_refuses r y v f g = rw (given_list wrong outside p l x) (refused_first Refused (Value v) y (rising_causes wrong p l) _ r (refused (rising_causes wrong p l) m a e r f) g)
+  pub rising_refuses : (r : Refusal) (y : Result ℕ Refusal) (v : ℕ) → a ≡ Err r → y ≡ Err r → y ≡ answer (given_causes wrong outside p l x) v
+  rising_refuses r y v f g = rw (given_list wrong outside p l x) (refused_first Err (Ok v) y (rising_causes wrong p l) _ r (refused (rising_causes wrong p l) m a e r f) g)
 
   -- else 5 and then 15 decide
-  module _ (n : ℕ) (f : a ≡ Value n) (s t : Bool) (g : s ≡ (outside || not (entries_inside (elements p) (entries l)))) (h : t ≡ wrong_index p l x) where
-    then_given : (y : Answer) (v : ℕ) → y ≡ outcome Refused ((s ⇒ OutOfRange) ∷ (t ⇒ WrongIndex) ∷ []) (Value v) → y ≡ answer (given_causes wrong outside p l x) v
-    then_given y v k = rw (given_list wrong outside p l x) (after Refused (Value v) y (rising_causes wrong p l) _ (none_of_rising wrong p l a m e n f) (rw (← g, ← h) k))
+  module _ (n : ℕ) (f : a ≡ Ok n) (s t : Bool) (g : s ≡ (outside || not (entries_inside (elements p) (entries l)))) (h : t ≡ wrong_index p l x) where
+    then_given : (y : Result ℕ Refusal) (v : ℕ) → y ≡ outcome Err ((s ⇒ OutOfRange) ∷ (t ⇒ WrongIndex) ∷ []) (Ok v) → y ≡ answer (given_causes wrong outside p l x) v
+    then_given y v k = rw (given_list wrong outside p l x) (after Err (Ok v) y (rising_causes wrong p l) _ (none_of_rising wrong p l a m e n f) (rw (← g, ← h) k))
 
-    pub given_outside : s ≡ true → (v : ℕ) → Refused OutOfRange ≡ answer (given_causes wrong outside p l x) v
-    given_outside i v = then_given (Refused OutOfRange) v (unfold outcome in (rw i))
+    pub given_outside : s ≡ true → (v : ℕ) → Err OutOfRange ≡ answer (given_causes wrong outside p l x) v
+    given_outside i v = then_given (Err OutOfRange) v (unfold outcome in (rw i))
 
-    pub given_other : s ≡ false → t ≡ true → (v : ℕ) → Refused WrongIndex ≡ answer (given_causes wrong outside p l x) v
-    given_other i j v = then_given (Refused WrongIndex) v (unfold outcome in (rw (i, j)))
+    pub given_other : s ≡ false → t ≡ true → (v : ℕ) → Err WrongIndex ≡ answer (given_causes wrong outside p l x) v
+    given_other i j v = then_given (Err WrongIndex) v (unfold outcome in (rw (i, j)))
 
-    pub given_right : s ≡ false → t ≡ false → Value (length l / entry_size) ≡ answer (given_causes wrong outside p l x) (length (entries l))
-    given_right i j = then_given (Value (length l / entry_size)) (length (entries l)) (unfold outcome in (rw (i, j, length_entries l)))
+    pub given_right : s ≡ false → t ≡ false → Ok (length l / entry_size) ≡ answer (given_causes wrong outside p l x) (length (entries l))
+    given_right i j = then_given (Ok (length l / entry_size)) (length (entries l)) (unfold outcome in (rw (i, j, length_entries l)))
 
 -- ---- a key beside them
 
-module _ (outside : Bool) (p l x k : List ℕ) (a : Answer) (m : ℕ) (e : a ≡ answer (given_causes (too_long k) outside p l x) m) (n : ℕ) (f : a ≡ Value n) where
+module _ (outside : Bool) (p l x k : List ℕ) (a : Result ℕ Refusal) (m : ℕ) (e : a ≡ answer (given_causes (too_long k) outside p l x) m) (n : ℕ) (f : a ≡ Ok n) where
   none_of_given : first (given_causes (too_long k) outside p l x) ≡ none
   none_of_given = accepted (given_causes (too_long k) outside p l x) m a e n f
 
@@ -211,5 +210,5 @@ module _ (outside : Bool) (p l x k : List ℕ) (a : Answer) (m : ℕ) (e : a ≡
     stands_for = rw encoded (element_encode (key k) (le-leb (length k) max_len key_short))
 
     -- the entries below the key are those below the record
-    pub side_counted : (c : ℕ) → c ≡ length (entries_below (element r) (entries l)) → Value c ≡ answer (given_causes (too_long k) outside p l x) (length (entries_below (key k) (entries l)))
-    side_counted c h = passed Refused (Value (length (entries_below (key k) (entries l)))) (Value c) (given_causes (too_long k) outside p l x) none_of_given (rw (h, stands_for))
+    pub side_counted : (c : ℕ) → c ≡ length (entries_below (element r) (entries l)) → Ok c ≡ answer (given_causes (too_long k) outside p l x) (length (entries_below (key k) (entries l)))
+    side_counted c h = passed Err (Ok (length (entries_below (key k) (entries l)))) (Ok c) (given_causes (too_long k) outside p l x) none_of_given (rw (h, stands_for))

@@ -3,3 +3,4 @@ pub mod Places
 pub mod Checks
 pub mod Merging
 pub mod Slots
+pub mod Rules

@@ -36,6 +36,10 @@ pub record Merged (p l d₀ d : List ℕ) (below i : ℕ) : Type 0 where
   pub near : i < length p / 66 → below ≤ length (entries_below (pivot_at (elements p) i) (entries l))
   pub bytes : d ≡ over (written encode_place (Index (elements p) (entries l)) i) d₀
 
+-- a pass that ends one pivot early has each step's facts, so what it doesn't have is the end
+pub sooner : (i n : ℕ) → i < n → i < n + 1
+sooner i n h = omega arith
+
 -- a checked bucket rises
 pub checked_rising : (p l : List ℕ) → CheckedBoth p l → Rising l
 checked_rising p l h = h.bucket
@@ -53,11 +57,11 @@ module _ (p l d₀ : List ℕ) (h : CheckedBoth p l) (m : length (elements p) * 
 
   module _ (d : List ℕ) (below i : ℕ) (w : Merged p l d₀ d below i) where
     -- at the end the index is written
-    pub merge_end : length p / 66 - 1 < i → d ≡ over (index_bytes p l) d₀
+    pub merge_end : length p / 66 - 1 + 1 ≤ i → d ≡ over (index_bytes p l) d₀
     unfolding encode_index
     merge_end k = turn_end encode_place (Index (elements p) (entries l)) i d₀ d (omega (arith, count)) w.bytes
 
-    module _ (j : i ≤ length p / 66 - 1) where
+    module _ (j : i < length p / 66 - 1 + 1) where
       k : i < length p / 66
       k = omega (arith, some_pivot)
 

@@ -1,4 +1,6 @@
 -- The entries of a slot, by the places of a checked index: how many, and which bytes.
+use Rattle.std.specs.Prelude.{Result, Ok, Err}
+use Rattle.model.specs.declared.Refusal.{Refusal}
 use mathlib.Core.Path.{◌≡◌, sym, ap, ◌∙◌}
 use mathlib.Core.Bool.{false}
 use mathlib.Core.List.{List, map}
@@ -11,8 +13,6 @@ use lib.ListN.{length, take, drop, get_or, length-drop}
 use mir.Syntax.{w8, w64}
 use mir.Val.{Fits}
 use Rattle.model.specs.declared.Refusal.TheVariants.{NoSuchSlot}
-use Rattle.model.specs.declared.Answer.{Answer}
-use Rattle.model.specs.declared.Answer.TheVariants.{Value, Refused}
 use Rattle.model.specs.records.Record.{joined, elements}
 use Rattle.model.specs.tables.Tables.{NumBuckets}
 use Rattle.model.specs.buckets.Bucket.{entry_size, entries, encode_entry, encode_bucket, sized_entry}
@@ -34,7 +34,7 @@ use Rattle.model.proofs.buckets.Index.{index_rises, index_most, slot_length}
 
 -- ---- a checked index, and a slot of the table
 
-module _ (p l x : List ℕ) (a : Answer) (e : a ≡ check_index_answer p l x) (m : ℕ) (f : a ≡ Value m) where
+module _ (p l x : List ℕ) (a : Result ℕ Refusal) (e : a ≡ check_index_answer p l x) (m : ℕ) (f : a ≡ Ok m) where
   none_given : first (given_causes false false p l x) ≡ none
   none_given = accepted (given_causes false false p l x) (length (entries l)) a e m f
 
@@ -43,10 +43,10 @@ module _ (p l x : List ℕ) (a : Answer) (e : a ≡ check_index_answer p l x) (m
   slot_there = omega (arith, length_elements p, wf_count (elements p) (entries_wf false false p l (given_entries false false p l x none_given)))
 
   -- past the last there is none
-  pub no_slot : (i : ℕ) → length p / 66 - 1 ≤ i → Refused NoSuchSlot ≡ slot_entries_answer p l x i
+  pub no_slot : (i : ℕ) → length p / 66 - 1 ≤ i → Err NoSuchSlot ≡ slot_entries_answer p l x i
   no_slot i h =
       let k : NumBuckets (elements p) ≤ i = omega (arith, length_elements p) in
-      after Refused (Value (length (slot_entries (elements p) (entries l) i))) (Refused NoSuchSlot) (given_causes false false p l x) _ none_given
+      after Err (Ok (length (slot_entries (elements p) (entries l) i))) (Err NoSuchSlot) (given_causes false false p l x) _ none_given
       (unfold outcome in (rw (le-ltb i (NumBuckets (elements p)) k)))
 
   module _ (i : ℕ) (h : i < length p / 66 - 1) (n k : ℕ) (g : n ≡ place_at (places x) (i + 1)) (j : k ≡ place_at (places x) i) where
@@ -63,16 +63,16 @@ module _ (p l x : List ℕ) (a : Answer) (e : a ≡ check_index_answer p l x) (m
         (index_rises (elements p) (entries l) (wf_sorted (elements p) (entries_wf false false p l (given_entries false false p l x none_given))) i (i + 1) (omega arith) (omega (arith, length_elements p)))
 
     -- between them lie the slot's entries
-    pub slot_counted : Value (n - k) ≡ slot_entries_answer p l x i
+    pub slot_counted : Ok (n - k) ≡ slot_entries_answer p l x i
     slot_counted =
         let o : i < NumBuckets (elements p) = omega (arith, length_elements p) in
-        after Refused (Value (length (slot_entries (elements p) (entries l) i))) (Value (n - k)) (given_causes false false p l x) _ none_given
+        after Err (Ok (length (slot_entries (elements p) (entries l) i))) (Ok (n - k)) (given_causes false false p l x) _ none_given
         (unfold outcome in (rw (lt-ltb i (NumBuckets (elements p)) o, slot_length (elements p) (entries l) i o, next_place, this_place)))
 
 -- ---- the part of the bucket
 
-module _ (p l x : List ℕ) (i : ℕ) (a : Answer) (e : a ≡ slot_entries_answer p l x i) (n : ℕ) (f : a ≡ Value n) where
-  answered : slot_entries_answer p l x i ≡ Value n
+module _ (p l x : List ℕ) (i : ℕ) (a : Result ℕ Refusal) (e : a ≡ slot_entries_answer p l x i) (n : ℕ) (f : a ≡ Ok n) where
+  answered : slot_entries_answer p l x i ≡ Ok n
   answered = sym e ∙ f
 
   here : i < NumBuckets (elements p)
@@ -105,8 +105,8 @@ module _ (p l x : List ℕ) (i : ℕ) (a : Answer) (e : a ≡ slot_entries_answe
     pub from_fits : Fits w64 (k * entry_size)
     from_fits = record { fits = omega (arith, ends, bucket_count false l bucket, bucket_most false l bucket) }
 
-    pub count_fits : Fits w64 (n * entry_size)
-    count_fits = record { fits = omega (arith, ends, bucket_count false l bucket, bucket_most false l bucket) }
+    pub bytes_fit : Fits w64 (n * entry_size)
+    bytes_fit = record { fits = omega (arith, ends, bucket_count false l bucket, bucket_most false l bucket) }
 
     pub end_fits : Fits w64 (k * entry_size + n * entry_size)
     end_fits = record { fits = omega (arith, ends, bucket_count false l bucket, bucket_most false l bucket) }

@@ -13,9 +13,10 @@ use crate::entry::entries_outside;
 use crate::merge::write_index;
 use crate::place::place_from;
 use entry_order::check_rising;
-use model::{Answer, ENTRY_SIZE, MAX_LEN, MAX_PIVOTS, PLACE_SIZE, RECORD_SIZE, Refusal};
+use model::{ENTRY_SIZE, MAX_LEN, MAX_PIVOTS, PLACE_SIZE, RECORD_SIZE, Refusal};
 
 // Cause 5: whether an entry is outside the table, or another argument, as the caller says.
+#[tactic(auto, using(crate::proofs::Rules::is_outside))]
 fn is_outside(pivots: &[u8], bucket: &[u8], outside: bool) -> bool
     requires { CheckedBoth pivots.now bucket.now }
     ensures { result ≡ (outside || not (entries_inside (elements pivots.now) (entries bucket.now))) }
@@ -27,6 +28,7 @@ fn is_outside(pivots: &[u8], bucket: &[u8], outside: bool) -> bool
 }
 
 // Cause 15: whether an index isn't the one that belongs to checked pivots and bucket.
+#[tactic(auto, using(crate::proofs::Rules::is_other))]
 fn is_other(pivots: &[u8], bucket: &[u8], index: &[u8]) -> bool
     requires { CheckedBoth pivots.now bucket.now }
     ensures { result ≡ wrong_index pivots.now bucket.now index.now }
@@ -41,38 +43,46 @@ fn is_other(pivots: &[u8], bucket: &[u8], index: &[u8]) -> bool
 }
 
 // Causes 1, 2, 3, 14, 5 and 15; else the total. The caller says whether another argument has cause 2, or 5.
-pub fn check_given(pivots: &[u8], bucket: &[u8], index: &[u8], wrong: bool, outside: bool) -> Answer
+#[tactic(auto, using(crate::proofs::Rules::check_given))]
+pub fn check_given(
+    pivots: &[u8],
+    bucket: &[u8],
+    index: &[u8],
+    wrong: bool,
+    outside: bool,
+) -> Result<usize, Refusal>
     ensures { result ≡ answer (given_causes wrong outside pivots.now bucket.now index.now) (length (entries bucket.now)) }
 {
-    let checked = check_rising(pivots, bucket, wrong);
-    let Answer::Value(_) = checked else {
-        return checked;
-    };
+    check_rising(pivots, bucket, wrong)?;
     let out = is_outside(pivots, bucket, outside);
     let other = is_other(pivots, bucket, index);
     if out {
-        return Answer::Refused(Refusal::OutOfRange);
+        return Err(Refusal::OutOfRange);
     }
     if other {
-        return Answer::Refused(Refusal::WrongIndex);
+        return Err(Refusal::WrongIndex);
     }
-    Answer::Value(bucket.len() / ENTRY_SIZE)
+    Ok(bucket.len() / ENTRY_SIZE)
 }
 
 // The causes of `check_given` with a key, which the caller says is outside or not; else the number of entries below it.
-pub fn check_side(pivots: &[u8], bucket: &[u8], index: &[u8], k: &[u8], outside: bool) -> Answer
+#[tactic(auto, using(crate::proofs::Rules::check_side))]
+pub fn check_side(
+    pivots: &[u8],
+    bucket: &[u8],
+    index: &[u8],
+    k: &[u8],
+    outside: bool,
+) -> Result<usize, Refusal>
     ensures { result ≡ answer (given_causes (too_long k.now) outside pivots.now bucket.now index.now) (length (entries_below (key k.now) (entries bucket.now))) }
 {
-    let checked = check_given(pivots, bucket, index, MAX_LEN < k.len(), outside);
-    let Answer::Value(_) = checked else {
-        return checked;
-    };
+    check_given(pivots, bucket, index, MAX_LEN < k.len(), outside)?;
     let rec = records::record_of(k.len() as u16, k);
-    Answer::Value(place_from(bucket, &rec, 0))
+    Ok(place_from(bucket, &rec, 0))
 }
 
 // Whether an index is the one that belongs to a table and a bucket. Answers the total. Refuses 1, 2, 3, 14, 5 and 15.
-pub fn check_index(pivots: &[u8], bucket: &[u8], index: &[u8]) -> Answer
+pub fn check_index(pivots: &[u8], bucket: &[u8], index: &[u8]) -> Result<usize, Refusal>
     ensures { result ≡ check_index_answer pivots.now bucket.now index.now }
 {
     check_given(pivots, bucket, index, false, false)

@@ -10,6 +10,7 @@ use entry_order::record_at;
 use model::{ENTRY_SIZE, RECORD_SIZE};
 
 // Whether an entry is outside the table. Entries that rise are inside where the first and the last are.
+#[tactic(auto, using(crate::proofs::Rules::entries_outside))]
 pub(crate) fn entries_outside(pivots: &[u8], bucket: &[u8]) -> bool
     requires { (WFPivots (elements pivots.now) ≡ true) × Rising bucket.now }
     ensures { result ≡ not (entries_inside (elements pivots.now) (entries bucket.now)) }

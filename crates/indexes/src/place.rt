@@ -14,25 +14,25 @@ use entry_order::record_at;
 use model::{ENTRY_SIZE, PLACE_SIZE};
 
 // Whether the entry at a place is below what a record stands for.
+#[tactic(auto, using(crate::proofs::Rules::is_below))]
 fn is_below(bucket: &[u8], i: usize, rec: &[u8]) -> bool
     requires { (entries_read (entry_bytes bucket.now) ≡ true) × (i < length bucket.now / entry_size) × Padded rec.now }
     ensures { result ≡ lt (element (entry_record (entry_at bucket.now i))) (element rec.now) }
 {
-    keys::compare_padded(record_at(bucket, i), rec) < 0
+    keys::compare_padded(record_at(bucket, i), rec).is_lt()
 }
 
 // The number of entries below what a record stands for: they stand first, and `from` of them are known.
+#[tactic(auto, using(crate::proofs::Rules::place_from))]
 pub(crate) fn place_from(bucket: &[u8], rec: &[u8], from: usize) -> usize
     requires { Rising bucket.now × Padded rec.now × (from ≤ length (entries_below (element rec.now) (entries bucket.now))) }
     ensures { result ≡ length (entries_below (element rec.now) (entries bucket.now)) }
 {
     let count = bucket.len() / ENTRY_SIZE;
-    let mut i = from;
-    while i < count {
+    for i in from..count {
         if !is_below(bucket, i, rec) {
             return i;
         }
-        i += 1;
     }
     count
 }
@@ -41,13 +41,11 @@ pub(crate) fn place_from(bucket: &[u8], rec: &[u8], from: usize) -> usize
 pub fn put_place(n: u16, dest: &mut [u8])
     ensures { dest.new ≡ into (encode_place n) dest.old }
 {
-    let mut made = [0u8; PLACE_SIZE];
-    made[0] = (n / 256) as u8;
-    made[1] = (n % 256) as u8;
-    records::copy(&made, dest);
+    records::copy(&n.to_be_bytes(), dest);
 }
 
 // The place of a slot by an index; 0 past the last.
+#[tactic(auto, using(crate::proofs::Rules::place_at))]
 pub fn place_at(index: &[u8], i: usize) -> usize
     ensures { result ≡ place_at (places index.now) i }
 {

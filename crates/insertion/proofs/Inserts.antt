@@ -1,4 +1,5 @@
 -- What an insertion into a slot answers and writes.
+use Rattle.std.specs.Prelude.{Result, Ok, Err}
 use mathlib.Core.Path.{◌≡◌, refl, sym, ◌∙◌}
 use mathlib.Core.Bool.{Bool, true, false, ◌&&◌, true≢false}
 use mathlib.Core.List.{List, [], ◌++◌}
@@ -12,20 +13,16 @@ use mir.Val.{Fits}
 use lib.ListN.{length, take, drop, get_or, length-drop}
 use Rattle.model.specs.declared.Refusal.{Refusal}
 use Rattle.model.specs.declared.Refusal.TheVariants.{TooLong}
-use Rattle.model.specs.declared.Answer.{Answer}
-use Rattle.model.specs.declared.Answer.TheVariants as answers
 use Rattle.model.specs.records.Record.{record_size, elements, record_of, encode_edge, encode_all, encode_edges}
-use Rattle.model.specs.declared.Routed.{Routed}
-use Rattle.model.specs.declared.Routed.TheVariants as routed
 use Rattle.model.specs.inner.Written.{clipped}
 use Rattle.model.specs.tables.Tables.{all, short_edge, Route}
-use Rattle.model.specs.calls.Refusals.{outcome, first, answer, routing, over}
+use Rattle.model.specs.calls.Refusals.{outcome, first, answer, over}
 use Rattle.model.specs.cuts.Sides.{inside, cutoff}
 use Rattle.model.specs.calls.TableCalls.{edge_slot_causes}
 use Rattle.model.specs.calls.CutCalls.{write_causes}
 use Rattle.model.specs.calls.InsertionCalls.{inserted_pivots, inserted_edges, new_pivot_causes}
 use Rattle.model.proofs.Lists.{rest, lent_on, length_over, over_all, take_over, clipped_all}
-use Rattle.model.proofs.calls.Refusals.{refused_first, none_here, accepted, refused, slot_accepted, slot_is}
+use Rattle.model.proofs.calls.Refusals.{refused_first, none_here, accepted, refused, value_is}
 use Rattle.model.proofs.records.Record.{length-encode_edge}
 use Rattle.model.proofs.keys.Key.{both, bytes_of}
 use Rattle.model.proofs.calls.InsertionCalls.{insert_found, insert_cutoff, insert_key, insert_pivots_bytes, insert_edges_bytes, insert_short, insert_half_long}
@@ -51,12 +48,12 @@ module _ (p e k : List ℕ) (c : ℕ) (h : first (new_pivot_causes p e k) ≡ no
 
 -- ---- the slot
 
-module _ (p e k : List ℕ) (s : Routed) (q : s ≡ routing (new_pivot_causes p e k) (Route (elements p) k)) (c : ℕ) (r : s ≡ routed.Slot c) where
+module _ (p e k : List ℕ) (s : Result ℕ Refusal) (q : s ≡ answer (new_pivot_causes p e k) (Route (elements p) k)) (c : ℕ) (r : s ≡ Ok c) where
   pub new_none : first (new_pivot_causes p e k) ≡ none
-  new_none = slot_accepted _ _ s q c r
+  new_none = accepted _ _ s q c r
 
   pub new_slot : c ≡ Route (elements p) k
-  new_slot = slot_is _ _ s q c r
+  new_slot = value_is _ _ s q c r
 
   pub new_found : (left : Bool) → first (edge_slot_causes p e k (inside left (elements p) k)) ≡ none
   new_found left = insert_found p e k new_none left
@@ -83,12 +80,12 @@ module _ (p e k : List ℕ) (h : first (new_pivot_causes p e k) ≡ none) where
 -- what making them answers
 module _ (p e k : List ℕ) (c : ℕ) (h : first (new_pivot_causes p e k) ≡ none) (f : c ≡ Route (elements p) k)
     (s : (i : ℕ) → Fits w8 (get_or p i 0)) (t : (i : ℕ) → Fits w8 (get_or k i 0)) where
-  half_answer : (left : Bool) (z : Answer) → z ≡ slot_edge_answer left p e k c → z ≡ answer (long_edge_causes (edge_cut left p e k)) 1
+  half_answer : (left : Bool) (z : Result ℕ Refusal) → z ≡ slot_edge_answer left p e k c → z ≡ answer (long_edge_causes (edge_cut left p e k)) 1
   half_answer left z q = slot_edge_answer_lem left p e k c z q (insert_found p e k h left) (f ∙ insert_cutoff p e k h left) s t
 
-  module _ (z : Answer) where
+  module _ (z : Result ℕ Refusal) where
     -- a long one ends the insertion
-    module _ (left : Bool) (q : z ≡ slot_edge_answer left p e k c) (y : Refusal) (r : z ≡ answers.Refused y) where
+    module _ (left : Bool) (q : z ≡ slot_edge_answer left p e k c) (y : Refusal) (r : z ≡ Err y) where
       half_is_long : short_edge (edge_cut left p e k) ≡ false
       unfolding outcome
       half_is_long = go (short_edge (edge_cut left p e k)) refl
@@ -99,28 +96,28 @@ module _ (p e k : List ℕ) (c : ℕ) (h : first (new_pivot_causes p e k) ≡ no
               let n : ◌≡◌ {A = ℕ} 0 1 = cc in absurd (omega arith)
           go false b = refl
 
-      pub half_refused : z ≡ answer (long_edges (inserted_edges p e k)) 1
+      pub half_refused : (x : Result ℕ Refusal) → x ≡ Err y → x ≡ answer (long_edges (inserted_edges p e k)) 1
       unfolding outcome
-      half_refused = half_answer left z q ∙ rw (half_is_long, half_long p e k h left half_is_long)
+      half_refused x o = o ∙ sym r ∙ half_answer left z q ∙ rw (half_is_long, half_long p e k h left half_is_long)
 
       pub half_unmade : (w : List ℕ) → all short_edge (inserted_edges p e k) ≡ true → w ≡ edges_cut p e k
       half_unmade w g = absurd (true≢false (sym g ∙ half_long p e k h left half_is_long))
 
     -- beside a short one the other decides
-    pub second_half : (a : Answer) (i : ℕ) → a ≡ slot_edge_answer true p e k c → a ≡ answers.Value i → z ≡ slot_edge_answer false p e k c
+    pub second_half : (a : Result ℕ Refusal) (i : ℕ) → a ≡ slot_edge_answer true p e k c → a ≡ Ok i → z ≡ slot_edge_answer false p e k c
         → z ≡ answer (long_edges (inserted_edges p e k)) 1
     unfolding outcome
     second_half a i g r q = half_answer false z q ∙ rw (only_halves p e k h, edge_taken (edge_cut true p e k) a (half_answer true a g) i r)
 
 -- ---- what the edges of the halves answer
 
-module _ (p e k : List ℕ) (z : Answer) (q : z ≡ answer (long_edges (inserted_edges p e k)) 1) where
+module _ (p e k : List ℕ) (z : Result ℕ Refusal) (q : z ≡ answer (long_edges (inserted_edges p e k)) 1) where
   -- taken, they are short
-  pub edges_taken : (m : ℕ) → z ≡ answers.Value m → all short_edge (inserted_edges p e k) ≡ true
+  pub edges_taken : (m : ℕ) → z ≡ Ok m → all short_edge (inserted_edges p e k) ≡ true
   edges_taken m r = not-false _ (none_here _ TooLong [] (accepted _ 1 z q m r))
 
   -- refused, they end the insertion
-  pub edges_refused : {A : Type 0} (g : Refusal → A) (v x : A) (dp de : List ℕ) (y : Refusal) → z ≡ answers.Refused y → x ≡ g y
+  pub edges_refused : {A : Type 0} (g : Refusal → A) (v x : A) (dp de : List ℕ) (y : Refusal) → z ≡ Err y → x ≡ g y
       → x ≡ outcome g (write_causes (inserted_pivots p k) (inserted_edges p e k) dp de) v
   edges_refused g v x dp de y r w = refused_first g v x (long_edges (inserted_edges p e k)) _ y (refused _ 1 z q y r) w
 

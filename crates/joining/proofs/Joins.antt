@@ -1,4 +1,5 @@
 -- The ways out of a join: the check of both tables, and what is written.
+use Rattle.std.specs.Prelude.{Result, Ok, Err}
 use mathlib.Core.Path.{◌≡◌, ◌∙◌}
 use mathlib.Core.Bool.{true, false}
 use mathlib.Core.List.{List, ◌++◌}
@@ -9,8 +10,6 @@ use mir.Syntax.{w8}
 use mir.Val.{Fits}
 use lib.ListN.{length, take, drop, get_or, take-append-drop}
 use Rattle.model.specs.declared.Refusal.{Refusal}
-use Rattle.model.specs.declared.Answer.{Answer}
-use Rattle.model.specs.declared.Answer.TheVariants.{Value, Refused}
 use Rattle.model.specs.records.Record.{elements, encode_all, encode_edges}
 use Rattle.model.specs.tables.Tables.{all, short_element, short_edge}
 use Rattle.model.specs.calls.Refusals.{outcome, first, answer}
@@ -62,7 +61,7 @@ module _ (p e q f : List ℕ) where
 
   module _ {A : Type 0} (g : Refusal → A) (v x : A) (dp de : List ℕ) where
     -- at a cause of the check
-    pub meeting_refuses : (a : Answer) (m : ℕ) (r : Refusal) → a ≡ answer (meeting_causes p e q f) m → a ≡ Refused r → x ≡ g r
+    pub meeting_refuses : (a : Result ℕ Refusal) (m : ℕ) (r : Refusal) → a ≡ answer (meeting_causes p e q f) m → a ≡ Err r → x ≡ g r
         → x ≡ outcome g (join_causes p e q f dp de) v
     meeting_refuses a m r b c d = refused_first g v x (meeting_causes p e q f) _ r (refused (meeting_causes p e q f) m a b r c) d
 
@@ -73,5 +72,5 @@ module _ (p e q f : List ℕ) where
         after g v x (meeting_causes p e q f) _ h (d ∙ short_room g v (joined_pivots p q) (joined_edges e f) dp de (edges_short h))
 
 -- a check that is passed says that the tables meet
-pub they_meet : (p e q f : List ℕ) (a : Answer) (m n : ℕ) → a ≡ answer (meeting_causes p e q f) m → a ≡ Value n → first (meeting_causes p e q f) ≡ none
+pub they_meet : (p e q f : List ℕ) (a : Result ℕ Refusal) (m n : ℕ) → a ≡ answer (meeting_causes p e q f) m → a ≡ Ok n → first (meeting_causes p e q f) ≡ none
 they_meet p e q f a m n b c = accepted (meeting_causes p e q f) m a b n c

@@ -1,14 +1,14 @@
 // The calls on keys.
 ghost use Rattle.std.specs.Prelude.{◌≡◌};
-ghost use Rattle.model.specs.calls.Refusals.{answer_number, compared_number, told, told_order};
+ghost use Rattle.model.specs.calls.Refusals.{answer_number, told};
 ghost use Rattle.model.specs.calls.KeyCalls.{compare_answer, pivot_key_answer, entry_key_answer, change_prefix_answer, change_prefix_leaves, pivot_lcp_answer, uncommon_prefix_answer, uncommon_prefix_leaves};
 
 use answers::{tell, tell_order};
 
 #[unsafe(no_mangle)]
 pub extern "C" fn jd_compare(a: &[u8], b: &[u8], order: &mut i64) -> u32
-    ensures number { result ≡ compared_number (compare_answer a.now b.now) }
-    ensures value { order.new ≡ told_order (compare_answer a.now b.now) order.old }
+    ensures number { result ≡ answer_number (compare_answer a.now b.now) }
+    ensures value { order.new ≡ told (compare_answer a.now b.now) order.old }
 {
     tell_order(keys::compare(a, b), order)
 }

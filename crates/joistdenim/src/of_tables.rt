@@ -1,6 +1,6 @@
 // The calls on tables.
 ghost use Rattle.std.specs.Prelude.{◌≡◌};
-ghost use Rattle.model.specs.calls.Refusals.{answer_number, told, decided_answer, slot_answer};
+ghost use Rattle.model.specs.calls.Refusals.{answer_number, told, decided_answer};
 ghost use Rattle.model.specs.calls.TableCalls.{wf_pivots_answer, wf_edges_answer, contains_all_keys_answer, contains_range_answer, bounded_key_answer, valid_left_cut_off_key_answer, pivot_insertable_answer, get_key_answer, init_pivot_table_answer, init_pivot_table_leaves, route_answer, cutoff_for_left_answer, cutoff_for_right_answer};
 
 use answers::{decided_answer, tell, tell_number};
@@ -92,30 +92,24 @@ pub extern "C" fn jd_init_pivot_table(dest: &mut [u8], value: &mut u64) -> u32
 
 #[unsafe(no_mangle)]
 pub extern "C" fn jd_route(pivots: &[u8], key: &[u8], value: &mut u64) -> u32
-    ensures number { result ≡ answer_number (slot_answer (route_answer pivots.now key.now)) }
-    ensures value { value.new ≡ told (slot_answer (route_answer pivots.now key.now)) value.old }
+    ensures number { result ≡ answer_number (route_answer pivots.now key.now) }
+    ensures value { value.new ≡ told (route_answer pivots.now key.now) value.old }
 {
-    tell(routing::slot_answer(routing::route(pivots, key)), value)
+    tell(routing::route(pivots, key), value)
 }
 
 #[unsafe(no_mangle)]
 pub extern "C" fn jd_cutoff_for_left(pivots: &[u8], key: &[u8], value: &mut u64) -> u32
-    ensures number { result ≡ answer_number (slot_answer (cutoff_for_left_answer pivots.now key.now)) }
-    ensures value { value.new ≡ told (slot_answer (cutoff_for_left_answer pivots.now key.now)) value.old }
+    ensures number { result ≡ answer_number (cutoff_for_left_answer pivots.now key.now) }
+    ensures value { value.new ≡ told (cutoff_for_left_answer pivots.now key.now) value.old }
 {
-    tell(
-        routing::slot_answer(routing::cutoff_for_left(pivots, key)),
-        value,
-    )
+    tell(routing::cutoff_for_left(pivots, key), value)
 }
 
 #[unsafe(no_mangle)]
 pub extern "C" fn jd_cutoff_for_right(pivots: &[u8], key: &[u8], value: &mut u64) -> u32
-    ensures number { result ≡ answer_number (slot_answer (cutoff_for_right_answer pivots.now key.now)) }
-    ensures value { value.new ≡ told (slot_answer (cutoff_for_right_answer pivots.now key.now)) value.old }
+    ensures number { result ≡ answer_number (cutoff_for_right_answer pivots.now key.now) }
+    ensures value { value.new ≡ told (cutoff_for_right_answer pivots.now key.now) value.old }
 {
-    tell(
-        routing::slot_answer(routing::cutoff_for_right(pivots, key)),
-        value,
-    )
+    tell(routing::cutoff_for_right(pivots, key), value)
 }

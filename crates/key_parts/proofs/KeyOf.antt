@@ -1,4 +1,5 @@
 -- What a record's reading says of its key and of the causes.
+use Rattle.std.specs.Prelude.{Result, Ok}
 use mathlib.Core.Path.{◌≡◌, sym, ◌∙◌}
 use mathlib.Core.Bool.{true, false, not}
 use mathlib.Core.List.{List}
@@ -15,8 +16,6 @@ use Rattle.model.specs.declared.Reading.{Reading}
 use Rattle.model.specs.declared.Reading.TheVariants.{Key, Malformed, NoEdge, Max}
 use Rattle.model.specs.records.Record.{record_size, reading, key_reading, key_bytes}
 use Rattle.model.specs.declared.Refusal.{Refusal}
-use Rattle.model.specs.declared.Answer.{Answer}
-use Rattle.model.specs.declared.Answer.TheVariants.{Value}
 use Rattle.model.specs.buckets.Bucket.{entry_size}
 use Rattle.model.specs.calls.Refusals.{outcome, answer, part}
 use Rattle.model.specs.calls.KeyCalls.{not_record, pivot_key_causes, pivot_key_answer, pivot_key_part, entry_key_causes, entry_key_answer, entry_key_part}
@@ -51,7 +50,7 @@ bytes_short : (r : List ℕ) → length r ≡ record_size → length (key_bytes 
 unfolding key_bytes
 bytes_short r h = rw (length-take, length-drop) (omega arith)
 
-module _ (r : List ℕ) (a : Answer) (m : ℕ) (e : a ≡ answer (pivot_key_causes r) (length (key_bytes r))) (h : a ≡ Value m) where
+module _ (r : List ℕ) (a : Result ℕ Refusal) (m : ℕ) (e : a ≡ answer (pivot_key_causes r) (length (key_bytes r))) (h : a ≡ Ok m) where
   size : length r ≡ record_size
   size =
       let n = accepted (pivot_key_causes r) (length (key_bytes r)) a e m h in
@@ -86,7 +85,7 @@ module _ (e : List ℕ) (h : length e ≡ entry_size) where
       let q : not_record (take 66 e) ≡ false = rw (← entry_room) in
       rw (p, q)
 
-  pub entry_answer : (a : Answer) → a ≡ pivot_key_answer (take 66 e) → a ≡ entry_key_answer e
+  pub entry_answer : (a : Result ℕ Refusal) → a ≡ pivot_key_answer (take 66 e) → a ≡ entry_key_answer e
   entry_answer a q = q ∙ same_outcome _ _
 
   pub entry_part : (x : List ℕ) → x ≡ pivot_key_part (take 66 e) → x ≡ entry_key_part e

@@ -1,1 +1,2 @@
 pub mod KeyOf
+pub mod Rules

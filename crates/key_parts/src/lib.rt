@@ -5,29 +5,28 @@
 ghost use Rattle.std.specs.Prelude.{◌≡◌};
 ghost use Rattle.model.specs.calls.KeyCalls.{pivot_key_answer, pivot_key_part, entry_key_answer, entry_key_part};
 
-use model::{Answer, ENTRY_SIZE, RECORD_SIZE, Reading, Refusal};
+use model::{ENTRY_SIZE, RECORD_SIZE, Reading, Refusal};
 
 // The length of a pivot record's key. Refuses 1 and 2; max and "no edge" are 2.
-pub fn pivot_key(rec: &[u8]) -> Answer
+#[tactic(auto, using(crate::proofs::Rules::pivot_key))]
+pub fn pivot_key(rec: &[u8]) -> Result<usize, Refusal>
     ensures { result ≡ pivot_key_answer rec.now }
 {
     if rec.len() != RECORD_SIZE {
-        return Answer::Refused(Refusal::Shape);
+        return Err(Refusal::Shape);
     }
     match records::read_record(rec) {
-        Reading::Key(n) => Answer::Value(n),
-        Reading::Malformed => Answer::Refused(Refusal::Malformed),
-        Reading::NoEdge => Answer::Refused(Refusal::Malformed),
-        Reading::Max => Answer::Refused(Refusal::Malformed),
+        Reading::Key(n) => Ok(n),
+        Reading::Malformed | Reading::NoEdge | Reading::Max => Err(Refusal::Malformed),
     }
 }
 
 // The part of a pivot record that its key fills, or an empty part where pivot_key refuses.
+#[tactic(auto, using(crate::proofs::Rules::pivot_key_part))]
 pub fn pivot_key_part(rec: &[u8]) -> &[u8]
     ensures { result.now ≡ pivot_key_part rec.now }
 {
-    let found = pivot_key(rec);
-    let Answer::Value(n) = found else {
+    let Ok(n) = pivot_key(rec) else {
         return &rec[..0];
     };
     let end = 2 + n;
@@ -35,16 +34,18 @@ pub fn pivot_key_part(rec: &[u8]) -> &[u8]
 }
 
 // The length of an entry's key. Refuses 1 and 2; both marks are 2.
-pub fn entry_key(entry: &[u8]) -> Answer
+#[tactic(auto, using(crate::proofs::Rules::entry_key))]
+pub fn entry_key(entry: &[u8]) -> Result<usize, Refusal>
     ensures { result ≡ entry_key_answer entry.now }
 {
     if entry.len() != ENTRY_SIZE {
-        return Answer::Refused(Refusal::Shape);
+        return Err(Refusal::Shape);
     }
     pivot_key(&entry[..RECORD_SIZE])
 }
 
 // The part of an entry that its key fills, or an empty part where entry_key refuses.
+#[tactic(auto, using(crate::proofs::Rules::entry_key_part))]
 pub fn entry_key_part(entry: &[u8]) -> &[u8]
     ensures { result.now ≡ entry_key_part entry.now }
 {

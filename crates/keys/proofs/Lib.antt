@@ -1,2 +1,3 @@
 pub mod Elements
 pub mod Padded
+pub mod Rules

@@ -9,26 +9,34 @@ use borrow.Author.Tests.{ne_eqb, lt-ltb, le-ltb, ltb-true, ltb-false, leb-true, 
 use lib.Dec.{eqb, ltb, leb}
 use lib.IntN.{ℤ, pos, negsuc}
 use lib.Signed.{lt_z}
-use lib.ListN.{length, take, drop, length-drop, drop_of_length-le}
+use lib.ListN.{length, take, drop, length-drop}
 use lib.Seq.{drop-drop, take_all}
-use mir.Syntax.{w64}
-use mir.Val.{to_z, of_z}
-use mir.Facts.{to_z-of_z}
+use Rattle.std.specs.Cmp.{ranked}
+use Rattle.std.specs.Ordering.{MatchOrdering, nat_cmp, is_ne, is_lt, ordering_then}
+use Rattle.std.specs.declared.cmp.Ordering.{Ordering}
+use Rattle.std.specs.declared.cmp.Ordering.TheVariants.{Less, Equal, Greater}
 use Rattle.model.specs.declared.Reading.{Reading}
 use Rattle.model.specs.declared.Reading.TheVariants as reads
 use Rattle.model.specs.keys.Key.{max_len}
-use Rattle.model.specs.keys.Order.{Element, key, lte, lt, cmp}
+use Rattle.model.specs.keys.Order.{Element, key, lte, lt, cmp, sign}
 use Rattle.model.specs.records.Record.{max_mark, length_field, all_zero, reading, element_reading, key_bytes, element}
 use Rattle.model.proofs.Lists.{rest}
 use Rattle.model.proofs.keys.Parts.{first_decides, rest_decides, padded_decides, length_decides}
 use Rattle.model.proofs.records.Record.{key_read, max_read}
 use Rattle.scan.specs.Word.{whole}
 use Rattle.keys.specs.Padded.{Padded, ordered, decided, words, padded_order}
-use Rattle.keys.proofs.Elements.{sign_fits, passed_on, told_below}
+use Rattle.keys.proofs.Elements.{told_below}
 
--- 0 is the machine's 0
-machine_zero : (z : ℤ) → z ≡ pos 0 → of_z w64 z ≡ 0
-machine_zero z e = rw e
+-- an order other than equal is told apart
+pub unequal : (o : Ordering) → is_ne o ≡ true → sign o ≡ pos 0 → ⊥
+unequal Less h e = false≢true (sym (ap (λ (z : ℤ). lt_z z (pos 0)) e))
+unequal Equal h e = false≢true h
+unequal Greater h e = false≢true (sym (ap (λ (z : ℤ). lt_z (pos 0) z) e))
+
+pub equal : (o : Ordering) → is_ne o ≡ false → sign o ≡ pos 0
+equal Less h = absurd (false≢true (sym h))
+equal Equal h = refl
+equal Greater h = absurd (false≢true (sym h))
 
 -- ---- two keys
 
@@ -36,22 +44,19 @@ whole_within : (a b : List ℕ) → (whole a b ≤ length a) × (whole a b ≤ l
 unfolding whole
 whole_within a b = (omega arith, omega arith)
 
-module _ (a b : List ℕ) (z : ℤ) (e : z ≡ cmp (key (take (whole a b) a)) (key (take (whole a b) b))) where
+module _ (a b : List ℕ) (o : Ordering) (e : sign o ≡ cmp (key (take (whole a b) a)) (key (take (whole a b) b))) where
   -- words that differ decide
-  pub words_decide : (of_z w64 z ≡ 0 → ⊥) → to_z w64 (of_z w64 z) ≡ cmp (key a) (key b)
-  words_decide d =
-      let w = passed_on (key (take (whole a b) a)) (key (take (whole a b) b)) z e in
-      w ∙ sym (first_decides (whole a b) a b (whole_within a b).0 (whole_within a b).1 (λ t. d (machine_zero z (e ∙ t))))
+  pub words_decide : (t : Bool) → t ≡ is_ne o → t ≡ true → sign o ≡ cmp (key a) (key b)
+  words_decide t h d = e ∙ sym (first_decides (whole a b) a b (whole_within a b).0 (whole_within a b).1 (λ z. unequal o (sym h ∙ d) (e ∙ z)))
 
   -- and where they agree the rest does
-  pub rest_decides_words : (n : ℕ) (y : ℤ) → of_z w64 z ≡ 0 → n ≡ min (length a) (length b)
-      → y ≡ cmp (key (take (length a - n / 8 * 8) (drop (n / 8 * 8) a))) (key (take (length b - n / 8 * 8) (drop (n / 8 * 8) b)))
-      → to_z w64 (of_z w64 y) ≡ cmp (key a) (key b)
+  pub rest_decides_words : (t : Bool) (n : ℕ) (y : Ordering) → t ≡ is_ne o → t ≡ false → n ≡ min (length a) (length b)
+      → sign y ≡ cmp (key (take (length a - n / 8 * 8) (drop (n / 8 * 8) a))) (key (take (length b - n / 8 * 8) (drop (n / 8 * 8) b)))
+      → sign y ≡ cmp (key a) (key b)
   unfolding whole
-  rest_decides_words n y d f g =
-      let w = passed_on (key (take (whole a b) a)) (key (take (whole a b) b)) z e in
-      passed_on (key (drop (n / 8 * 8) a)) (key (drop (n / 8 * 8) b)) y (rw (rest a (n / 8 * 8), rest b (n / 8 * 8)) at g)
-      ∙ rw f (sym (rest_decides (whole a b) a b (whole_within a b).0 (whole_within a b).1 (sym w ∙ ap (to_z w64) d)))
+  rest_decides_words t n y h d f g =
+      (rw (rest a (n / 8 * 8), rest b (n / 8 * 8)) at g)
+      ∙ rw f (sym (rest_decides (whole a b) a b (whole_within a b).0 (whole_within a b).1 (sym e ∙ equal o (sym h ∙ d))))
 
 -- ---- two records
 
@@ -75,15 +80,6 @@ held r t e h = sym e ∙ not-false t h
 
 -- ---- the order of two numbers
 
-pub is_less : (x y : ℕ) → x < y → negsuc 0 ≡ ordered x y
-is_less x y h = rw (lt-ltb x y h)
-
-pub is_more : (x y : ℕ) → y < x → pos 1 ≡ ordered x y
-is_more x y h = rw (le-ltb x y (omega arith), lt-ltb y x h)
-
-pub is_same : (x y : ℕ) → y ≤ x → x ≤ y → pos 0 ≡ ordered x y
-is_same x y h k = rw (le-ltb x y h, le-ltb y x k)
-
 -- not at most is below
 other_test : (x y : ℕ) → not (leb y x) ≡ ltb x y
 other_test x y = go (leb y x) refl
@@ -92,9 +88,13 @@ other_test x y = go (leb y x) refl
     go true e = sym (le-ltb x y (leb-true y x e))
     go false e = sym (lt-ltb x y (leb-false y x e))
 
--- the order of two numbers is kept as a number of the machine's
-ordered_fits : (x y : ℕ) (z : ℤ) → z ≡ ordered x y → to_z w64 (of_z w64 z) ≡ ordered x y
-ordered_fits x y z e = rw e (to_z-of_z (sign_fits (ltb x y) (ltb y x)))
+number_order : (x y : ℕ) (o : Ordering) → o ≡ nat_cmp x y → sign o ≡ ordered x y
+number_order x y o r = go o (ranked x y o r)
+  where
+    go : (o : Ordering) → MatchOrdering o (x < y) (x ≡ y) (y < x) → sign o ≡ ordered x y
+    go Less h = rw (lt-ltb x y h)
+    go Equal h = rw (le-ltb x y (omega arith), le-ltb y x (omega arith))
+    go Greater h = rw (le-ltb x y (omega arith), lt-ltb y x h)
 
 -- ---- what two records stand for
 
@@ -191,33 +191,28 @@ module _ (a b : List ℕ) where
 
 -- ---- its returns
 
--- after the field of fewer than two bytes there is nothing
-pub none_after : (r : List ℕ) → length r < 2 → take 0 r ≡ drop 2 r
-none_after r h = let e : length r ≤ 2 = omega arith in sym (drop_of_length-le r e)
+module _ (a b : List ℕ) (x y : ℕ) (e : x ≡ length_field a) (f : y ≡ length_field b) (v : Ordering) (g : v ≡ nat_cmp x y) where
+  pub left_mark : 64 < x → sign v ≡ padded_order a b
+  left_mark h = number_order x y v g ∙ rw (e, f) (sym (by_left a b (rw (← e) h)))
 
-module _ (a b : List ℕ) (x y : ℕ) (e : x ≡ length_field a) (f : y ≡ length_field b) (z : ℤ) (g : z ≡ ordered x y) where
-  pub left_mark : 64 < x → to_z w64 (of_z w64 z) ≡ padded_order a b
-  left_mark h = ordered_fits x y z g ∙ rw (e, f) (sym (by_left a b (rw (← e) h)))
+  pub right_mark : 64 < y → sign v ≡ padded_order a b
+  right_mark h = number_order x y v g ∙ rw (e, f) (sym (by_right a b (rw (← f) h)))
 
-  pub right_mark : 64 < y → to_z w64 (of_z w64 z) ≡ padded_order a b
-  right_mark h = ordered_fits x y z g ∙ rw (e, f) (sym (by_right a b (rw (← f) h)))
+  module _ (h : x ≤ 64) (k : y ≤ 64) (s t : List ℕ) (m : s ≡ drop 2 a) (n : t ≡ drop 2 b)
+      (o : Ordering) (u : sign o ≡ cmp (key (take (whole s t) s)) (key (take (whole s t) t))) where
+    told : sign o ≡ cmp (words a b a) (words a b b)
+    told = rw (m, n) at u
 
-module _ (a b : List ℕ) (x y : ℕ) (e : x ≡ length_field a) (f : y ≡ length_field b) (h : x ≤ 64) (k : y ≤ 64) (s t : List ℕ) (m : s ≡ drop 2 a) (n : t ≡ drop 2 b)
-    (z : ℤ) (g : z ≡ cmp (key (take (whole s t) s)) (key (take (whole s t) t))) where
-  told : to_z w64 (of_z w64 z) ≡ cmp (words a b a) (words a b b)
-  told = passed_on (words a b a) (words a b b) z (rw (m, n) at g)
+    then_fields : sign (ordering_then o v) ≡ decided (words a b a) (words a b b) (ordered x y)
+    then_fields = go o told
+      where
+        go : (o : Ordering) → sign o ≡ cmp (words a b a) (words a b b) → sign (ordering_then o v) ≡ decided (words a b a) (words a b b) (ordered x y)
+        go Less w = w ∙ decided_differ (words a b a) (words a b b) (ordered x y) (λ z. unequal Less refl (w ∙ z))
+        go Equal w = number_order x y v g ∙ decided_agree (words a b a) (words a b b) (ordered x y) (sym w)
+        go Greater w = w ∙ decided_differ (words a b a) (words a b b) (ordered x y) (λ z. unequal Greater refl (w ∙ z))
 
-  pub words_differ : (of_z w64 z ≡ 0 → ⊥) → to_z w64 (of_z w64 z) ≡ padded_order a b
-  words_differ d =
-      told
-      ∙ decided_differ (words a b a) (words a b b) (ordered (length_field a) (length_field b)) (λ o. d (machine_zero z (g ∙ rw (m, n) o)))
-      ∙ sym (by_words_lem a b (rw (← e) h) (rw (← f) k))
-
-  pub words_agree : (v : ℤ) → of_z w64 z ≡ 0 → v ≡ ordered x y → to_z w64 (of_z w64 v) ≡ padded_order a b
-  words_agree v d u =
-      ordered_fits x y v u
-      ∙ rw (e, f) (decided_agree (words a b a) (words a b b) (ordered (length_field a) (length_field b)) (sym told ∙ ap (to_z w64) d))
-      ∙ sym (by_words_lem a b (rw (← e) h) (rw (← f) k))
+    pub words_first : (r : Ordering) → r ≡ ordering_then o v → sign r ≡ padded_order a b
+    words_first r w = ap sign w ∙ then_fields ∙ rw (e, f) (sym (by_words_lem a b (rw (← e) h) (rw (← f) k)))
 
 -- ---- of records that are read as elements it is the order of what they stand for
 
@@ -249,16 +244,13 @@ module _ (a b : List ℕ) (p : Padded a) (q : Padded b) where
           let w = all_words a b p.0 q.0 in
           by_words_lem a b h k ∙ rw (w.0, w.1) (keys_ordered h k)
 
-  pub padded_told : (z : ℤ) → z ≡ padded_order a b → to_z w64 (of_z w64 z) ≡ cmp (element a) (element b)
-  padded_told z e = passed_on (element a) (element b) z (e ∙ padded_elements)
+  pub padded_told : (o : Ordering) → sign o ≡ padded_order a b → sign o ≡ cmp (element a) (element b)
+  padded_told o e = e ∙ padded_elements
 
-  pub padded_below : (z : ℤ) → z ≡ padded_order a b → lt_z (to_z w64 (of_z w64 z)) (pos 0) ≡ lt (element a) (element b)
-  padded_below z e = told_below (element a) (element b) z (e ∙ padded_elements)
+  pub padded_below : (o : Ordering) → sign o ≡ padded_order a b → is_lt o ≡ lt (element a) (element b)
+  padded_below o e = told_below (element a) (element b) o (e ∙ padded_elements)
 
 -- both were found to be elements'
-pub elements_told : (a b : List ℕ) (s t : Bool) (z : ℤ) → length a ≡ 66 → length b ≡ 66 → s ≡ element_reading (reading a) → not s ≡ false
-    → t ≡ element_reading (reading b) → not t ≡ false → z ≡ padded_order a b → to_z w64 (of_z w64 z) ≡ cmp (element a) (element b)
-elements_told a b s t z l m e h f k g = padded_told a b (l, held a s e h) (m, held b t f k) z g
-
--- `compare_padded`, by its tests
-pub ruleset padding = (left_mark, right_mark, words_differ, words_agree)
+pub elements_told : (a b : List ℕ) (s t : Bool) (o : Ordering) → length a ≡ 66 → length b ≡ 66 → s ≡ element_reading (reading a) → not s ≡ false
+    → t ≡ element_reading (reading b) → not t ≡ false → sign o ≡ padded_order a b → sign o ≡ cmp (element a) (element b)
+elements_told a b s t o l m e h f k g = padded_told a b (l, held a s e h) (m, held b t f k) o g

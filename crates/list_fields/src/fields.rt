@@ -7,6 +7,7 @@ use crate::keys::key_field;
 use model::EdgeKind;
 
 // A pivot.
+#[tactic(auto, using(crate::proofs::Rules::element_field))]
 pub fn element_field(rec: &[u8], dest: &mut [u8]) -> usize
     ensures length { (result ≡ length (pivot_field rec.now)) × (result ≤ most_field) }
     ensures written { dest.new ≡ into (pivot_field rec.now) dest.old }
@@ -19,6 +20,7 @@ pub fn element_field(rec: &[u8], dest: &mut [u8]) -> usize
 }
 
 // The prefix of the range between two pivots.
+#[tactic(auto, using(crate::proofs::Rules::shared_field))]
 pub fn shared_field(left: &[u8], right: &[u8], dest: &mut [u8]) -> usize
     ensures length { (result ≡ length (shared_field left.now right.now)) × (result ≤ most_field) }
     ensures written { dest.new ≡ into (shared_field left.now right.now) dest.old }
@@ -32,6 +34,7 @@ pub fn shared_field(left: &[u8], right: &[u8], dest: &mut [u8]) -> usize
 }
 
 // An edge, which is the last of a line: `.` where it is empty, `-` where there is none.
+#[tactic(auto, using(crate::proofs::Rules::edge_field))]
 pub fn edge_field(rec: &[u8], dest: &mut [u8]) -> usize
     ensures length { (result ≡ length (edge_field rec.now)) × (result ≤ most_field) }
     ensures written { dest.new ≡ into (edge_field rec.now) dest.old }

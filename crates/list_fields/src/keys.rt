@@ -5,6 +5,7 @@ ghost use Rattle.digits.specs.Field.{field};
 ghost use Rattle.list_fields.specs.Fields.{hex_or, most_bytes, most_text, most_field};
 
 // A key, or a mark in place of the empty one.
+#[tactic(auto, using(crate::proofs::Rules::key_text))]
 fn key_text(k: &[u8], empty: u8, dest: &mut [u8]) -> usize
     requires { length k.now ≤ most_bytes }
     ensures length { (result ≡ length (hex_or empty k.now)) × (result ≤ most_text) }
@@ -20,6 +21,7 @@ fn key_text(k: &[u8], empty: u8, dest: &mut [u8]) -> usize
 }
 
 // A key, or a mark in place of the empty one, and the byte that ends its field.
+#[tactic(auto, using(crate::proofs::Rules::key_field))]
 pub(crate) fn key_field(k: &[u8], empty: u8, end: u8, dest: &mut [u8]) -> usize
     requires { length k.now ≤ most_bytes }
     ensures length { (result ≡ length (field (hex_or empty k.now) end)) × (result ≤ most_field) }

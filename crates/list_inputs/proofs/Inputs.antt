@@ -1,4 +1,6 @@
 -- The parts of an input, its size and the check of its table.
+use Rattle.std.specs.Prelude.{Result}
+use Rattle.model.specs.declared.Refusal.{Refusal}
 use mathlib.Core.Path.{◌≡◌, sym, ap, ◌∙◌}
 use mathlib.Core.Bool.{Bool, false, not}
 use mathlib.Core.List.{List, []}
@@ -9,7 +11,6 @@ use native.Mathlib.Omega.{arith}
 use lib.Dec.{eqb}
 use lib.ListN.{length, take, drop, length-drop, drop_of_length-le}
 use lib.Seq.{take-nil}
-use Rattle.model.specs.declared.Answer.{Answer}
 use Rattle.model.specs.records.Record.{record_size, length_field}
 use Rattle.model.specs.calls.Refusals.{answer}
 use Rattle.model.specs.calls.TableCalls.{table_causes}
@@ -50,7 +51,7 @@ module _ (s : List ℕ) (c : ℕ) (e : c ≡ length_field s) where
   unfolding not_list_size
   size_some = rw e
 
-pub list_checked : (s p q : List ℕ) (t : Bool) (r : Answer) → p ≡ list_pivots s → q ≡ list_edges s → t ≡ not_list_size s
+pub list_checked : (s p q : List ℕ) (t : Bool) (r : Result ℕ Refusal) → p ≡ list_pivots s → q ≡ list_edges s → t ≡ not_list_size s
     → r ≡ answer (table_causes t false p q) (length p / record_size) → r ≡ answer (list_causes s) (length (list_pivots s) / record_size)
 unfolding list_causes
 list_checked s p q t r e f g h = h ∙ rw (e, f, g)

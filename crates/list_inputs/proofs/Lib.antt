@@ -1,1 +1,2 @@
 pub mod Inputs
+pub mod Rules

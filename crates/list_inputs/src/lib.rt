@@ -7,7 +7,7 @@ ghost use Rattle.model.specs.records.Record.{record_size};
 ghost use Rattle.model.specs.calls.Refusals.{answer};
 ghost use Rattle.model.specs.list.ShelfList.{list_count, list_pivots, list_edges, not_list_size, list_causes};
 
-use model::{Answer, RECORD_SIZE};
+use model::{RECORD_SIZE, Refusal};
 
 fn wide(x: u16) -> usize
     ensures { (result ≡ x) × (result < 65536) }
@@ -23,6 +23,7 @@ fn list_count(input: &[u8]) -> usize
 }
 
 // The pivots, as far as there are bytes.
+#[tactic(auto, using(crate::proofs::Rules::list_pivots))]
 pub fn list_pivots(input: &[u8]) -> &[u8]
     ensures { result.now ≡ list_pivots input.now }
 {
@@ -35,6 +36,7 @@ pub fn list_pivots(input: &[u8]) -> &[u8]
 }
 
 // What follows the pivots.
+#[tactic(auto, using(crate::proofs::Rules::list_edges))]
 pub fn list_edges(input: &[u8]) -> &[u8]
     ensures { result.now ≡ list_edges input.now }
 {
@@ -44,6 +46,7 @@ pub fn list_edges(input: &[u8]) -> &[u8]
 }
 
 // Whether there are missing or extra bytes.
+#[tactic(auto, using(crate::proofs::Rules::not_list_size))]
 fn not_list_size(input: &[u8]) -> bool
     ensures { result ≡ not_list_size input.now }
 {
@@ -55,7 +58,8 @@ fn not_list_size(input: &[u8]) -> bool
 }
 
 // Causes 1 to 4 of the table; else the count of its pivots.
-pub fn check_list(input: &[u8]) -> Answer
+#[tactic(auto, using(crate::proofs::Rules::check_list))]
+pub fn check_list(input: &[u8]) -> Result<usize, Refusal>
     ensures { result ≡ answer (list_causes input.now) (length (list_pivots input.now) / record_size) }
 {
     let pivots = list_pivots(input);

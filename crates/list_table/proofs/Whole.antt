@@ -1,4 +1,5 @@
 -- A list that has room is not refused, and stands whole in the text.
+use Rattle.std.specs.Prelude.{Result, Ok, Err}
 use mathlib.Core.Path.{◌≡◌, refl, sym, ap, ◌∙◌}
 use mathlib.Core.List.{List, []}
 use Prim.Native.Nat.{ℕ, ◌≤◌}
@@ -7,22 +8,20 @@ use borrow.Author.Tests.{le-ltb}
 use lib.ListN.{length, take, length-take}
 use Rattle.model.specs.declared.Refusal.{Refusal}
 use Rattle.model.specs.declared.Refusal.TheVariants.{NoRoom}
-use Rattle.model.specs.declared.Answer.{Answer}
-use Rattle.model.specs.declared.Answer.TheVariants as answers
 use Rattle.model.specs.calls.KeyCalls.{no_room}
 use Rattle.model.specs.list.ShelfList.{shelf_list, list_table_answer, list_table_leaves}
 use Rattle.model.proofs.calls.Refusals.{later, value_done}
 use Rattle.model.proofs.list.Lossless.{listed_length, listed}
 
-module _ (s d : List ℕ) (a : Answer) (e : a ≡ list_table_answer s d) where
-  pub never_refused : length (shelf_list s) ≤ length d → (r : Refusal) → a ≡ answers.Refused r → ⊥
+module _ (s d : List ℕ) (a : Result ℕ Refusal) (e : a ≡ list_table_answer s d) where
+  pub never_refused : length (shelf_list s) ≤ length d → (r : Refusal) → a ≡ Err r → ⊥
   never_refused room r h =
-      let v = value_done answers.Refused _ (length (shelf_list s)) refl in
-      let w = later answers.Refused _ _ (no_room (length (shelf_list s)) d) NoRoom [] (le-ltb _ _ room) v in
+      let v = value_done Err _ (length (shelf_list s)) refl in
+      let w = later Err _ _ (no_room (length (shelf_list s)) d) NoRoom [] (le-ltb _ _ room) v in
       let z : ◌≡◌ {A = ℕ} 0 1 = cc in
       omega arith
 
-  module _ (n : ℕ) (h : a ≡ answers.Value n) where
+  module _ (n : ℕ) (h : a ≡ Ok n) where
     pub list_length : n ≡ length (shelf_list s)
     list_length = listed_length s d n (sym e ∙ h)
 

@@ -1,11 +1,10 @@
 // Reads a table from standard input, and writes its list to standard output.
 #![tactic(auto)]
 
-ghost use Rattle.std.specs.Prelude.{◌≡◌, ◌≤◌, length, take};
+ghost use Rattle.std.specs.Prelude.{◌≡◌, ◌≤◌, length, take, IfOk};
 ghost use Rattle.model.specs.list.ShelfList.{shelf_list};
-ghost use Rattle.list_table.specs.Input.{bytes_read};
 
-use model::{Answer, MAX_PIVOTS, RECORD_SIZE};
+use model::{MAX_PIVOTS, RECORD_SIZE};
 use std::io::{self, Read, Write};
 
 // One byte more than the largest table has, by which a longer input shows.
@@ -14,31 +13,24 @@ const INPUT_SIZE: usize = 2 + (MAX_PIVOTS + (MAX_PIVOTS - 1)) * RECORD_SIZE + 1;
 // As many bytes as the list of any input has at most, by the law list_most.
 const TEXT_SIZE: usize = 32715;
 
-// What was read: so many bytes, or a read failed.
-#[derive(Clone, Copy)]
-enum Input {
-    Bytes(usize),
-    Failed,
-}
-
-// Reads until buf is full or the input ends. A read that a signal interrupts counts as one that failed.
-fn read_input<R: Read>(from: &mut R, buf: &mut [u8]) -> Input
-    ensures { bytes_read result ≤ length buf.new }
+// Reads until buf is full or the input ends, and answers how many bytes. A read that a signal interrupts counts as one that
+// failed.
+fn read_input<R: Read>(from: &mut R, buf: &mut [u8]) -> io::Result<usize>
+    ensures { IfOk result (λ n. n ≤ length buf.new) }
 {
     let mut done = 0;
     while done < buf.len() {
-        let Ok(n) = from.read(&mut buf[done..]) else {
-            return Input::Failed;
-        };
+        let n = from.read(&mut buf[done..])?;
         if n == 0 {
-            return Input::Bytes(done);
+            return Ok(done);
         }
         done += n;
     }
-    Input::Bytes(done)
+    Ok(done)
 }
 
 // Writes the list of what was read to the head of text, and answers its length.
+#[tactic(auto, using(crate::proofs::Rules::list_read))]
 fn list_read(input: &[u8], text: &mut [u8]) -> usize
     requires { length (shelf_list input.now) ≤ length text.old }
     ensures length { result ≡ length (shelf_list input.now) }
@@ -46,7 +38,7 @@ fn list_read(input: &[u8], text: &mut [u8]) -> usize
 {
     let listed = listing::list_table(input, text);
     // There is room, so this is never refused.
-    let Answer::Value(n) = listed else {
+    let Ok(n) = listed else {
         return 0;
     };
     n
@@ -55,8 +47,7 @@ fn list_read(input: &[u8], text: &mut [u8]) -> usize
 fn main(rt: HostRuntime) -> io::Result<()> {
     let mut input = [0u8; INPUT_SIZE];
     let mut text = [0u8; TEXT_SIZE];
-    let read = read_input(&mut rt.stdin(), &mut input);
-    let Input::Bytes(n) = read else {
+    let Ok(n) = read_input(&mut rt.stdin(), &mut input) else {
         return rt
             .stderr()
             .write_all(b"list_table: standard input could not be read\n");

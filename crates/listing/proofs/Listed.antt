@@ -1,4 +1,5 @@
 -- The text that a check calls for is the list, and what the call leaves of it.
+use Rattle.std.specs.Prelude.{Result, Ok, Err}
 use mathlib.Core.Path.{◌≡◌, refl, sym, ap, ◌∙◌}
 use mathlib.Core.Bool.{false}
 use mathlib.Core.List.{List, [], ◌∷◌, ◌++◌, append_assoc, append-nil}
@@ -12,8 +13,6 @@ use lib.ListN.{length, take, drop, drop_of_length-le}
 use lib.Seq.{drop-cons}
 use Rattle.model.specs.declared.Refusal.{Refusal}
 use Rattle.model.specs.declared.Refusal.TheVariants.{Shape, Malformed, Unsorted, EmptyPrefix, OutOfRange, NoSuchSlot, NotPrefix, TooLong, NotBelow, NoRoom, AlreadyPivot, TooManyPivots, NotMeeting, EntriesUnsorted, WrongIndex}
-use Rattle.model.specs.declared.Answer.{Answer}
-use Rattle.model.specs.declared.Answer.TheVariants as answers
 use Rattle.model.specs.keys.Order.{max}
 use Rattle.model.specs.records.Record.{no_edge, record_size, elements, edges}
 use Rattle.model.specs.tables.Tables.{PivotTable, EdgeTable, pivot_at, edge_at}
@@ -67,23 +66,23 @@ module _ (r : Refusal) (x : ℕ) (e : x ≡ number r) where
 
 -- ---- the text by what was found
 
-module _ (f : Answer) (p e : List ℕ) where
+module _ (f : Result ℕ Refusal) (p e : List ℕ) where
   -- all the pivots of a table are listed
-  listed : (n : ℕ) → f ≡ answers.Value n → count_of f ≤ 64 → text_of p e n ≡ found_text f p e
+  listed : (n : ℕ) → f ≡ Ok n → count_of f ≤ 64 → text_of p e n ≡ found_text f p e
   unfolding text_of found_text
   listed n h k = let l : n ≤ 64 = rw h at k in let m : min n 64 ≡ n = omega arith in rw (h, m)
 
-  pub value_length : (n m : ℕ) → f ≡ answers.Value n → count_of f ≤ 64 → m ≡ length (text_of p e n) → m ≡ length (found_text f p e)
+  pub value_length : (n m : ℕ) → f ≡ Ok n → count_of f ≤ 64 → m ≡ length (text_of p e n) → m ≡ length (found_text f p e)
   value_length n m h k g = g ∙ ap length (listed n h k)
 
-  pub value_written : (n : ℕ) (d w : List ℕ) → f ≡ answers.Value n → count_of f ≤ 64 → w ≡ into (text_of p e n) d → w ≡ into (found_text f p e) d
+  pub value_written : (n : ℕ) (d w : List ℕ) → f ≡ Ok n → count_of f ≤ 64 → w ≡ into (text_of p e n) d → w ≡ into (found_text f p e) d
   value_written n d w h k g = g ∙ ap (λ (t : List ℕ). into t d) (listed n h k)
 
-  pub refusal_length : (r : Refusal) (m : ℕ) → f ≡ answers.Refused r → m ≡ length (refused_text r) → m ≡ length (found_text f p e)
+  pub refusal_length : (r : Refusal) (m : ℕ) → f ≡ Err r → m ≡ length (refused_text r) → m ≡ length (found_text f p e)
   unfolding found_text
   refusal_length r m h k = rw h k
 
-  pub refusal_written : (r : Refusal) (d w : List ℕ) → f ≡ answers.Refused r → w ≡ into (refused_text r) d → w ≡ into (found_text f p e) d
+  pub refusal_written : (r : Refusal) (d w : List ℕ) → f ≡ Err r → w ≡ into (refused_text r) d → w ≡ into (found_text f p e) d
   unfolding found_text
   refusal_written r d w h k = rw h k
 
@@ -127,11 +126,11 @@ module _ (p e : List ℕ) (slots : ℕ) (h : length (edges e) ≡ slots) (k : le
 
 -- ---- the text that a check calls for
 
-module _ (s : List ℕ) (f : Answer) (e : f ≡ answer (list_causes s) (length (list_pivots s) / record_size)) where
+module _ (s : List ℕ) (f : Result ℕ Refusal) (e : f ≡ answer (list_causes s) (length (list_pivots s) / record_size)) where
   -- of a table that is not refused
   module _ (h : first (list_causes s) ≡ none) where
-    accepted_is : f ≡ answers.Value (length (list_pivots s) / record_size)
-    accepted_is = e ∙ sym (passed answers.Refused _ _ (list_causes s) h refl)
+    accepted_is : f ≡ Ok (length (list_pivots s) / record_size)
+    accepted_is = e ∙ sym (passed Err _ _ (list_causes s) h refl)
 
     table_is : header ++ lines_to (list_pivots s) (list_edges s) (length (list_pivots s) / record_size - 1) ≡ shelf_list s
     unfolding shelf_list list_causes
@@ -150,18 +149,18 @@ module _ (s : List ℕ) (f : Answer) (e : f ≡ answer (list_causes s) (length (
     where
       go : (o : Option Refusal) → first (list_causes s) ≡ o → found_text f (list_pivots s) (list_edges s) ≡ shelf_list s
       go none h = rw (accepted_is h) (table_is h)
-      go (some r) h = rw (e ∙ sym (refused_by answers.Refused _ _ (list_causes s) r h refl)) (unfold shelf_list in refused_by refused_text _ _ (list_causes s) r h refl)
+      go (some r) h = rw (e ∙ sym (refused_by Err _ _ (list_causes s) r h refl)) (unfold shelf_list in refused_by refused_text _ _ (list_causes s) r h refl)
 
   pub found_count : count_of f ≤ 64
   found_count = go (first (list_causes s)) refl
     where
       go : (o : Option Refusal) → first (list_causes s) ≡ o → count_of f ≤ 64
       go none h = rw (accepted_is h) (most h)
-      go (some r) h = rw (e ∙ sym (refused_by answers.Refused _ _ (list_causes s) r h refl)) (omega arith)
+      go (some r) h = rw (e ∙ sym (refused_by Err _ _ (list_causes s) r h refl)) (omega arith)
 
 -- ---- the call: the text is measured where there is no room, and then written
 
-module _ (s d p e w : List ℕ) (f : Answer) (n : ℕ) (ep : p ≡ list_pivots s) (ee : e ≡ list_edges s)
+module _ (s d p e w : List ℕ) (f : Result ℕ Refusal) (n : ℕ) (ep : p ≡ list_pivots s) (ee : e ≡ list_edges s)
     (ef : f ≡ answer (list_causes s) (length (list_pivots s) / record_size)) (l : n ≡ length (found_text f p e)) (m : w ≡ into (found_text f p e) [])
   where
     text_is : found_text f p e ≡ shelf_list s
@@ -175,14 +174,14 @@ module _ (s d p e w : List ℕ) (f : Answer) (n : ℕ) (ep : p ≡ list_pivots s
     unfolding into over
     untouched = rw m
 
-    pub no_room_answer : length (w ++ d) < n → answers.Refused NoRoom ≡ list_table_answer s d
-    no_room_answer h = here answers.Refused _ _ _ NoRoom [] (lt-ltb _ _ (rw (untouched, measured) at h)) refl
+    pub no_room_answer : length (w ++ d) < n → Err NoRoom ≡ list_table_answer s d
+    no_room_answer h = here Err _ _ _ NoRoom [] (lt-ltb _ _ (rw (untouched, measured) at h)) refl
 
     pub no_room_leaves : length (w ++ d) < n → w ++ d ≡ list_table_leaves s d
     no_room_leaves h = here (λ (r : Refusal). d) _ _ _ NoRoom [] (lt-ltb _ _ (rw (untouched, measured) at h)) untouched
 
-    pub room_answer : n ≤ length (w ++ d) → answers.Value n ≡ list_table_answer s d
-    room_answer h = later answers.Refused _ _ _ NoRoom [] (le-ltb _ _ (rw (untouched, measured) at h)) (value_done answers.Refused n _ measured)
+    pub room_answer : n ≤ length (w ++ d) → Ok n ≡ list_table_answer s d
+    room_answer h = later Err _ _ _ NoRoom [] (le-ltb _ _ (rw (untouched, measured) at h)) (value_done Err n _ measured)
 
     pub room_leaves : (v : List ℕ) → n ≤ length (w ++ d) → v ≡ into (found_text f p e) (w ++ d) → v ≡ list_table_leaves s d
     room_leaves v h g =

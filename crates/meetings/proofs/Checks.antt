@@ -1,4 +1,5 @@
 -- The ways out of the check of two tables: causes 1 to 4 of both, then 13 and 12.
+use Rattle.std.specs.Prelude.{Result, Ok, Err}
 use mathlib.Core.Path.{◌≡◌, refl, ap, ◌∙◌}
 use mathlib.Core.Bool.{Bool, true, false}
 use mathlib.Core.List.{List, [], ◌∷◌}
@@ -6,8 +7,6 @@ use mathlib.Core.Option.{none}
 use Prim.Native.Nat.{ℕ}
 use Rattle.model.specs.declared.Refusal.{Refusal}
 use Rattle.model.specs.declared.Refusal.TheVariants.{NotMeeting, TooManyPivots}
-use Rattle.model.specs.declared.Answer.{Answer}
-use Rattle.model.specs.declared.Answer.TheVariants.{Value, Refused}
 use Rattle.model.specs.records.Record.{elements}
 use Rattle.model.specs.tables.Tables.{WFPivots}
 use Rattle.model.specs.cuts.Join.{not_meeting}
@@ -28,16 +27,16 @@ module _ (p e q f : List ℕ) where
   in_step_lem = refl
 
   -- so the earlier refusal of the two checks is that of both
-  pub both_checked : (x a b : Answer) (m n : ℕ) → a ≡ answer (table_causes false false p e) m → b ≡ answer (table_causes false false q f) n
+  pub both_checked : (x a b : Result ℕ Refusal) (m n : ℕ) → a ≡ answer (table_causes false false p e) m → b ≡ answer (table_causes false false q f) n
       → x ≡ earlier a b → x ≡ answer (two_tables_causes p e q f) m
   both_checked x a b m n g h i = told_earlier (table_causes false false p e) (table_causes false false q f) m n x a b in_step_lem g h i
 
   -- a refusal of theirs is handed on
-  pub checks_refuse : (a : Answer) (m v : ℕ) (r : Refusal) → a ≡ answer (two_tables_causes p e q f) m → a ≡ Refused r → a ≡ answer (meeting_causes p e q f) v
-  checks_refuse a m v r b c = handed_on-first (two_tables_causes p e q f) m a b Refused (Value v) a _ r c c
+  pub checks_refuse : (a : Result ℕ Refusal) (m v : ℕ) (r : Refusal) (z : Result ℕ Refusal) → a ≡ answer (two_tables_causes p e q f) m → a ≡ Err r → z ≡ Err r → z ≡ answer (meeting_causes p e q f) v
+  checks_refuse a m v r z b c o = handed_on-first (two_tables_causes p e q f) m a b Err (Ok v) z _ r c o
 
 -- a check that is passed says that neither table has a cause
-module _ (p e q f : List ℕ) (a : Answer) (m n : ℕ) (b : a ≡ answer (two_tables_causes p e q f) m) (c : a ≡ Value n) where
+module _ (p e q f : List ℕ) (a : Result ℕ Refusal) (m n : ℕ) (b : a ≡ answer (two_tables_causes p e q f) m) (c : a ≡ Ok n) where
   none_checked : first (two_tables_causes p e q f) ≡ none
   none_checked = accepted (two_tables_causes p e q f) m a b n c
 
@@ -49,14 +48,14 @@ module _ (p e q f : List ℕ) (a : Answer) (m n : ℕ) (b : a ≡ answer (two_ta
 
   -- then 13 and 12 decide
   module _ (s t : Bool) (g : s ≡ not_meeting (elements p) (elements q)) (h : t ≡ too_many_pivots (joined_pivots p q)) where
-    then_decide : (x : Answer) (v : ℕ) → x ≡ outcome Refused ((s ⇒ NotMeeting) ∷ (t ⇒ TooManyPivots) ∷ []) (Value v) → x ≡ answer (meeting_causes p e q f) v
-    then_decide x v d = after Refused (Value v) x (two_tables_causes p e q f) _ none_checked (rw (← g, ← h) d)
+    then_decide : (x : Result ℕ Refusal) (v : ℕ) → x ≡ outcome Err ((s ⇒ NotMeeting) ∷ (t ⇒ TooManyPivots) ∷ []) (Ok v) → x ≡ answer (meeting_causes p e q f) v
+    then_decide x v d = after Err (Ok v) x (two_tables_causes p e q f) _ none_checked (rw (← g, ← h) d)
 
-    pub apart_first : s ≡ true → (v : ℕ) → Refused NotMeeting ≡ answer (meeting_causes p e q f) v
-    apart_first i v = then_decide (Refused NotMeeting) v (unfold outcome in rw i)
+    pub apart_first : s ≡ true → (v : ℕ) → Err NotMeeting ≡ answer (meeting_causes p e q f) v
+    apart_first i v = then_decide (Err NotMeeting) v (unfold outcome in rw i)
 
-    pub many_first : s ≡ false → t ≡ true → (v : ℕ) → Refused TooManyPivots ≡ answer (meeting_causes p e q f) v
-    many_first i j v = then_decide (Refused TooManyPivots) v (unfold outcome in rw (i, j))
+    pub many_first : s ≡ false → t ≡ true → (v : ℕ) → Err TooManyPivots ≡ answer (meeting_causes p e q f) v
+    many_first i j v = then_decide (Err TooManyPivots) v (unfold outcome in rw (i, j))
 
     pub they_meet : s ≡ false → t ≡ false → a ≡ answer (meeting_causes p e q f) m
-    they_meet i j = then_decide a m (unfold outcome in (rw (i, j) (c ∙ ap Value (value_is (two_tables_causes p e q f) m a b n c))))
+    they_meet i j = then_decide a m (unfold outcome in (rw (i, j) (c ∙ ap Ok (value_is (two_tables_causes p e q f) m a b n c))))

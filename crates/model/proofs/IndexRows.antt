@@ -1,10 +1,10 @@
 -- A bucket of three entries has its index: built, checked, asked for a slot, cut and translated; and which cause comes first.
+use Rattle.std.specs.Prelude.{Result, Ok, Err}
+use Rattle.model.specs.declared.Refusal.{Refusal}
 use mathlib.Core.Path.{◌≡◌, refl}
 use mathlib.Core.Bool.{Bool, true, false}
 use mathlib.Core.List.{List, [], ◌∷◌, ◌++◌}
 use Prim.Native.Nat.{ℕ, ◌+◌, ◌*◌, ◌-◌}
-use Rattle.model.specs.declared.Answer.{Answer}
-use Rattle.model.specs.declared.Answer.TheVariants.{Value, Refused}
 use Rattle.model.specs.declared.Refusal.TheVariants.{Shape, Malformed, Unsorted, OutOfRange, NoSuchSlot, TooLong, NoRoom, EntriesUnsorted, WrongIndex}
 use Rattle.model.specs.keys.Key.{Key, change_prefix, IsPrefix}
 use Rattle.model.specs.keys.Order.{key, max, lte_key, lte, last_place, LargestLte, LargestLt}
@@ -58,34 +58,34 @@ place_bytes = (refl, refl, refl)
 abbrev pub index_abc : List ℕ
 index_abc = 0 ∷ 0 ∷ 0 ∷ 2 ∷ 0 ∷ 3 ∷ []
 
-abbrev pub builds_abc : List ℕ → Answer
+abbrev pub builds_abc : List ℕ → Result ℕ Refusal
 builds_abc d = build_index_answer (encode_all pivots_ace) (encode_bucket bucket_abc) d
 
-abbrev pub checks_abc : List ℕ → Answer
+abbrev pub checks_abc : List ℕ → Result ℕ Refusal
 checks_abc x = check_index_answer (encode_all pivots_ace) (encode_bucket bucket_abc) x
 
-pub built_of_abc : (builds_abc (zeros 6) ≡ Value 3) × (builds_abc (zeros 5) ≡ Refused NoRoom)
+pub built_of_abc : (builds_abc (zeros 6) ≡ Ok 3) × (builds_abc (zeros 5) ≡ Err NoRoom)
     × (build_index_leaves (encode_all pivots_ace) (encode_bucket bucket_abc) (9 ∷ 9 ∷ 9 ∷ 9 ∷ 9 ∷ 9 ∷ 9 ∷ []) ≡ index_abc ++ 9 ∷ [])
-    × (checks_abc index_abc ≡ Value 3) × (checks_abc (0 ∷ 0 ∷ 0 ∷ 1 ∷ 0 ∷ 3 ∷ []) ≡ Refused WrongIndex) × (checks_abc (0 ∷ 0 ∷ 0 ∷ 2 ∷ 0 ∷ []) ≡ Refused WrongIndex)
-    × (checks_abc (index_abc ++ 0 ∷ []) ≡ Refused WrongIndex) × (build_index_answer (encode_all pivots_ace) (encode_bucket (entry_a ∷ [])) (zeros 6) ≡ Value 1)
-    × (check_index_answer (encode_all pivots_ace) (encode_bucket (entry_a ∷ [])) (0 ∷ 0 ∷ 0 ∷ 1 ∷ 0 ∷ 1 ∷ []) ≡ Value 1)
+    × (checks_abc index_abc ≡ Ok 3) × (checks_abc (0 ∷ 0 ∷ 0 ∷ 1 ∷ 0 ∷ 3 ∷ []) ≡ Err WrongIndex) × (checks_abc (0 ∷ 0 ∷ 0 ∷ 2 ∷ 0 ∷ []) ≡ Err WrongIndex)
+    × (checks_abc (index_abc ++ 0 ∷ []) ≡ Err WrongIndex) × (build_index_answer (encode_all pivots_ace) (encode_bucket (entry_a ∷ [])) (zeros 6) ≡ Ok 1)
+    × (check_index_answer (encode_all pivots_ace) (encode_bucket (entry_a ∷ [])) (0 ∷ 0 ∷ 0 ∷ 1 ∷ 0 ∷ 1 ∷ []) ≡ Ok 1)
 unfolding outcome over paired pivot_causes not_pivot_count pivots_read records pieces elements encode_all encode record_of joined reading field_reading length_field all_zero element key_bytes IsStrictlySorted rises_from lte lte_key all bucket_causes not_entry_count_by entries_read entry_bytes_by entries entry_of encode_bucket encode_entry entries_rise BoundedKey entries_inside entries_causes given_causes only entries_below Index encode_place encode_index IsPrefix
 built_of_abc = (refl, refl, refl, refl, refl, refl, refl, refl, refl)
 
 -- slot 0 has two entries and slot 1 one, handed back as they stand; there is no slot 2, which 15 comes before
-abbrev pub slot_abc : List ℕ → ℕ → Answer
+abbrev pub slot_abc : List ℕ → ℕ → Result ℕ Refusal
 slot_abc x i = slot_entries_answer (encode_all pivots_ace) (encode_bucket bucket_abc) x i
 
 abbrev pub part_abc : ℕ → List ℕ
 part_abc i = slot_entries_part (encode_all pivots_ace) (encode_bucket bucket_abc) index_abc i
 
-pub slots_of_abc : (slot_abc index_abc 0 ≡ Value 2) × (slot_abc index_abc 1 ≡ Value 1) × (slot_abc index_abc 2 ≡ Refused NoSuchSlot) × (slot_abc [] 2 ≡ Refused WrongIndex)
+pub slots_of_abc : (slot_abc index_abc 0 ≡ Ok 2) × (slot_abc index_abc 1 ≡ Ok 1) × (slot_abc index_abc 2 ≡ Err NoSuchSlot) × (slot_abc [] 2 ≡ Err WrongIndex)
     × (part_abc 0 ≡ encode_bucket (entry_a ∷ entry_b ∷ [])) × (part_abc 1 ≡ encode_bucket (entry_c ∷ [])) × (part_abc 2 ≡ [])
 unfolding outcome over paired pivot_causes not_pivot_count pivots_read records pieces elements encode_all encode record_of joined reading field_reading length_field all_zero element key_bytes IsStrictlySorted rises_from lte lte_key all bucket_causes not_entry_count_by entries_read entry_bytes_by entries entry_of encode_bucket encode_entry entries_rise BoundedKey entries_inside entries_causes given_causes only entries_below Index encode_place encode_index IsPrefix slot_entries
 slots_of_abc = (refl, refl, refl, refl, refl, refl, refl)
 
 -- cut at 62: on the left 61 with the index 0, 1 of the pivots 61, 62; on the right 62 and 63 with the index 0, 1, 2 of the pivots 62, 63, 65
-abbrev pub cuts_abc : Bool → Key → List ℕ → List ℕ → Answer
+abbrev pub cuts_abc : Bool → Key → List ℕ → List ℕ → Result ℕ Refusal
 cuts_abc left k db dx = cut_index_answer left (encode_all pivots_ace) (encode_bucket bucket_abc) index_abc k db dx
 
 pub cut_of_abc : (entries_beside true (0x62 ∷ []) bucket_abc ≡ entry_a ∷ []) × (entries_beside false (0x62 ∷ []) bucket_abc ≡ entry_b ∷ entry_c ∷ [])
@@ -98,20 +98,20 @@ unfolding outcome over paired pivot_causes not_pivot_count pivots_read records p
 cut_of_abc = (refl, refl, refl, refl, refl, refl, refl, refl)
 
 -- each side answers its entries and needs the bytes of an entry for each, and two for each of its pivots; the left is not cut at the first pivot, nor the right at the last
-pub cut_room_of_abc : (cuts_abc true (0x62 ∷ []) (zeros entry_size) (zeros 4) ≡ Value 1) × (cuts_abc true (0x62 ∷ []) (zeros (entry_size - 1)) (zeros 4) ≡ Refused NoRoom) × (cuts_abc true (0x62 ∷ []) (zeros entry_size) (zeros 3) ≡ Refused NoRoom)
-    × (cuts_abc false (0x62 ∷ []) (zeros (2 * entry_size)) (zeros 6) ≡ Value 2) × (cuts_abc false (0x62 ∷ []) (zeros (2 * entry_size - 1)) (zeros 6) ≡ Refused NoRoom) × (cuts_abc false (0x62 ∷ []) (zeros (2 * entry_size)) (zeros 5) ≡ Refused NoRoom)
-    × (cuts_abc true (0x61 ∷ []) [] [] ≡ Refused OutOfRange) × (cuts_abc false (0x61 ∷ []) (zeros (3 * entry_size)) (zeros 6) ≡ Value 3)
-    × (cuts_abc true (0x65 ∷ []) (zeros (3 * entry_size)) (zeros 6) ≡ Value 3) × (cuts_abc false (0x65 ∷ []) [] [] ≡ Refused OutOfRange) × (cuts_abc true (zeros 65) [] [] ≡ Refused Malformed)
+pub cut_room_of_abc : (cuts_abc true (0x62 ∷ []) (zeros entry_size) (zeros 4) ≡ Ok 1) × (cuts_abc true (0x62 ∷ []) (zeros (entry_size - 1)) (zeros 4) ≡ Err NoRoom) × (cuts_abc true (0x62 ∷ []) (zeros entry_size) (zeros 3) ≡ Err NoRoom)
+    × (cuts_abc false (0x62 ∷ []) (zeros (2 * entry_size)) (zeros 6) ≡ Ok 2) × (cuts_abc false (0x62 ∷ []) (zeros (2 * entry_size - 1)) (zeros 6) ≡ Err NoRoom) × (cuts_abc false (0x62 ∷ []) (zeros (2 * entry_size)) (zeros 5) ≡ Err NoRoom)
+    × (cuts_abc true (0x61 ∷ []) [] [] ≡ Err OutOfRange) × (cuts_abc false (0x61 ∷ []) (zeros (3 * entry_size)) (zeros 6) ≡ Ok 3)
+    × (cuts_abc true (0x65 ∷ []) (zeros (3 * entry_size)) (zeros 6) ≡ Ok 3) × (cuts_abc false (0x65 ∷ []) [] [] ≡ Err OutOfRange) × (cuts_abc true (zeros 65) [] [] ≡ Err Malformed)
 unfolding outcome over paired pivot_causes not_pivot_count pivots_read records pieces elements encode_all encode record_of joined reading field_reading length_field all_zero element key_bytes IsStrictlySorted rises_from lte lte_key all bucket_causes not_entry_count_by entries_read entry_bytes_by entries entry_of encode_bucket encode_entry entries_rise BoundedKey entries_inside entries_causes given_causes only entries_below Index encode_place encode_index IsPrefix entries_from ValidLeftCutOffKey last_place LargestLte LargestLt Route CutoffForLeft CutoffForRight SplitLeft SplitRight
 cut_room_of_abc = (refl, refl, refl, refl, refl, refl, refl, refl, refl, refl, refl)
 
 -- translated from the prefix 62 to 78 only 62 is kept, in slot 0: the places are 0, 1, 1; translated from the empty prefix all are
-abbrev pub translates_abc : Key → Key → List ℕ → List ℕ → Answer
+abbrev pub translates_abc : Key → Key → List ℕ → List ℕ → Result ℕ Refusal
 translates_abc p q db dx = translate_index_answer (encode_all pivots_ace) (encode_bucket bucket_abc) index_abc p q db dx
 
 pub translation_of_abc : (TranslateIndex pivots_ace bucket_abc (0x62 ∷ []) (0x78 ∷ []) ≡ 0 ∷ 1 ∷ 1 ∷ []) × (TranslateIndex pivots_ace bucket_abc [] (0x78 ∷ []) ≡ 0 ∷ 2 ∷ 3 ∷ [])
-    × (translates_abc (0x62 ∷ []) (0x78 ∷ []) (zeros entry_size) (zeros 6) ≡ Value 1) × (translates_abc (0x62 ∷ []) (0x78 ∷ []) (zeros (entry_size - 1)) (zeros 6) ≡ Refused NoRoom)
-    × (translates_abc (0x62 ∷ []) (0x78 ∷ []) (zeros entry_size) (zeros 5) ≡ Refused NoRoom) × (translates_abc [] (zeros 64) [] [] ≡ Refused TooLong) × (translates_abc [] (zeros 65) [] [] ≡ Refused Malformed) × (translates_abc (zeros 65) [] [] [] ≡ Refused Malformed)
+    × (translates_abc (0x62 ∷ []) (0x78 ∷ []) (zeros entry_size) (zeros 6) ≡ Ok 1) × (translates_abc (0x62 ∷ []) (0x78 ∷ []) (zeros (entry_size - 1)) (zeros 6) ≡ Err NoRoom)
+    × (translates_abc (0x62 ∷ []) (0x78 ∷ []) (zeros entry_size) (zeros 5) ≡ Err NoRoom) × (translates_abc [] (zeros 64) [] [] ≡ Err TooLong) × (translates_abc [] (zeros 65) [] [] ≡ Err Malformed) × (translates_abc (zeros 65) [] [] [] ≡ Err Malformed)
     × (translate_index_leaves_bucket (encode_all pivots_ace) (encode_bucket bucket_abc) index_abc (0x62 ∷ []) (0x78 ∷ []) (zeros entry_size) (zeros 6) ≡ encode_bucket (entry_one (0x78 ∷ []) ∷ []))
     × (translate_index_leaves_index (encode_all pivots_ace) (encode_bucket bucket_abc) index_abc (0x62 ∷ []) (0x78 ∷ []) (zeros entry_size) (9 ∷ 9 ∷ 9 ∷ 9 ∷ 9 ∷ 9 ∷ 9 ∷ []) ≡ 0 ∷ 0 ∷ 0 ∷ 1 ∷ 0 ∷ 1 ∷ 9 ∷ [])
 unfolding outcome over paired pivot_causes not_pivot_count pivots_read records pieces elements encode_all encode record_of joined reading field_reading length_field all_zero element key_bytes IsStrictlySorted rises_from lte lte_key all bucket_causes not_entry_count_by entries_read entry_bytes_by entries entry_of encode_bucket encode_entry entries_rise BoundedKey entries_inside entries_causes given_causes only entries_below Index encode_place encode_index IsPrefix needed_bytes change_prefix TranslateBucket TranslateIndex
@@ -121,25 +121,25 @@ translation_of_abc = (refl, refl, refl, refl, refl, refl, refl, refl, refl, refl
 abbrev pub pivots_down : PivotTable
 pivots_down = key (0x63 ∷ []) ∷ key (0x61 ∷ []) ∷ []
 
-abbrev pub checks_of : PivotTable → List ℕ → List ℕ → Answer
+abbrev pub checks_of : PivotTable → List ℕ → List ℕ → Result ℕ Refusal
 checks_of pt l x = check_index_answer (encode_all pt) l x
 
-pub first_of_check : (checks_of (max ∷ key [] ∷ []) (0 ∷ []) [] ≡ Refused Shape) × (checks_of [] (encode max ++ number_one) [] ≡ Refused Shape)
-    × (checks_of pivots_down (encode max ++ number_one) [] ≡ Refused Malformed)
-    × (checks_of pivots_down (encode_bucket (entry_b ∷ entry_a ∷ [])) [] ≡ Refused Unsorted) × (checks_of pivots_ace (encode_bucket (entry_one [] ∷ entry_one [] ∷ [])) [] ≡ Refused EntriesUnsorted)
-    × (checks_of pivots_ace (encode_bucket (entry_one (0x65 ∷ []) ∷ [])) [] ≡ Refused OutOfRange) × (checks_of pivots_ace (encode_bucket (entry_one [] ∷ [])) [] ≡ Refused OutOfRange)
-    × (checks_of pivots_ace [] [] ≡ Refused WrongIndex)
+pub first_of_check : (checks_of (max ∷ key [] ∷ []) (0 ∷ []) [] ≡ Err Shape) × (checks_of [] (encode max ++ number_one) [] ≡ Err Shape)
+    × (checks_of pivots_down (encode max ++ number_one) [] ≡ Err Malformed)
+    × (checks_of pivots_down (encode_bucket (entry_b ∷ entry_a ∷ [])) [] ≡ Err Unsorted) × (checks_of pivots_ace (encode_bucket (entry_one [] ∷ entry_one [] ∷ [])) [] ≡ Err EntriesUnsorted)
+    × (checks_of pivots_ace (encode_bucket (entry_one (0x65 ∷ []) ∷ [])) [] ≡ Err OutOfRange) × (checks_of pivots_ace (encode_bucket (entry_one [] ∷ [])) [] ≡ Err OutOfRange)
+    × (checks_of pivots_ace [] [] ≡ Err WrongIndex)
 unfolding outcome paired pivot_causes not_pivot_count pivots_read records pieces elements encode_all encode record_of joined reading field_reading length_field all_zero element key_bytes IsStrictlySorted rises_from lte lte_key all bucket_causes not_entry_count_by entries_read entry_bytes_by entries entry_of encode_bucket encode_entry entries_rise BoundedKey entries_inside entries_causes given_causes only entries_below Index encode_place encode_index IsPrefix
 first_of_check = (refl, refl, refl, refl, refl, refl, refl, refl)
 
 -- The first refusal of a cut: 1 of the bucket comes before a key over 64 bytes, and that before 3; 14 comes before a key outside the table, and that before 15, which comes before 10. Of a translation 15 comes before 8, and where an index is built 5 of an entry comes before 10
-abbrev pub cuts_of : PivotTable → List ℕ → Key → Answer
+abbrev pub cuts_of : PivotTable → List ℕ → Key → Result ℕ Refusal
 cuts_of pt l k = cut_index_answer false (encode_all pt) l [] k [] []
 
-pub first_of_calls : (cuts_of pivots_down (0 ∷ []) (zeros 65) ≡ Refused Shape) × (cuts_of pivots_down [] (zeros 65) ≡ Refused Malformed)
-    × (cuts_of pivots_ace (encode_bucket (entry_b ∷ entry_a ∷ [])) [] ≡ Refused EntriesUnsorted) × (cuts_of pivots_ace (encode_bucket bucket_abc) [] ≡ Refused OutOfRange)
-    × (cuts_of pivots_ace (encode_bucket bucket_abc) (0x62 ∷ []) ≡ Refused WrongIndex)
-    × (translate_index_answer (encode_all pivots_ace) (encode_bucket bucket_abc) [] [] (zeros 64) [] [] ≡ Refused WrongIndex)
-    × (build_index_answer (encode_all pivots_ace) (encode_bucket (entry_one [] ∷ [])) [] ≡ Refused OutOfRange)
+pub first_of_calls : (cuts_of pivots_down (0 ∷ []) (zeros 65) ≡ Err Shape) × (cuts_of pivots_down [] (zeros 65) ≡ Err Malformed)
+    × (cuts_of pivots_ace (encode_bucket (entry_b ∷ entry_a ∷ [])) [] ≡ Err EntriesUnsorted) × (cuts_of pivots_ace (encode_bucket bucket_abc) [] ≡ Err OutOfRange)
+    × (cuts_of pivots_ace (encode_bucket bucket_abc) (0x62 ∷ []) ≡ Err WrongIndex)
+    × (translate_index_answer (encode_all pivots_ace) (encode_bucket bucket_abc) [] [] (zeros 64) [] [] ≡ Err WrongIndex)
+    × (build_index_answer (encode_all pivots_ace) (encode_bucket (entry_one [] ∷ [])) [] ≡ Err OutOfRange)
 unfolding outcome paired pivot_causes not_pivot_count pivots_read records pieces elements encode_all encode record_of joined reading field_reading length_field all_zero element key_bytes IsStrictlySorted rises_from lte lte_key all bucket_causes not_entry_count_by entries_read entry_bytes_by entries entry_of encode_bucket encode_entry entries_rise BoundedKey entries_inside entries_causes given_causes only entries_below Index encode_place encode_index IsPrefix entries_from ValidLeftCutOffKey last_place LargestLte LargestLt Route CutoffForLeft CutoffForRight SplitLeft SplitRight needed_bytes change_prefix TranslateBucket
 first_of_calls = (refl, refl, refl, refl, refl, refl, refl)

@@ -1,6 +1,9 @@
-// What every crate shares by name: the limits, the refusals, and the answers of the calls.
-// This crate has no function. Its definitions are in specs/, its laws in proofs/.
+// What every crate shares by name: the limits, the refusals, and how a record is read.
+// Its definitions are in specs/, its laws in proofs/; its only function numbers the refusals.
 #![tactic(auto)]
+
+ghost use Rattle.std.specs.Prelude.{◌≡◌};
+ghost use Rattle.model.specs.calls.Refusals.{number};
 
 // The limits of specs/keys/Key, records/Record, buckets/Bucket, buckets/Index, translation/PairRecord and tables/Tables,
 // for use in code.
@@ -25,7 +28,7 @@ pub const MIN_PIVOTS: usize = 2;
 pub const MAX_PIVOTS: usize = 64;
 
 // Why a call refuses. `number` in specs/calls/Refusals.antt gives each its number.
-#[derive(Clone, Copy)]
+#[derive(Clone, Copy, Debug, PartialEq, Eq)]
 pub enum Refusal {
     Shape,
     Malformed,
@@ -44,44 +47,41 @@ pub enum Refusal {
     WrongIndex,
 }
 
-// What a call answers whose result is a length, a place or a count.
-#[derive(Clone, Copy)]
-pub enum Answer {
-    Value(usize),
-    Refused(Refusal),
+// The paper's number of a refusal.
+impl From<Refusal> for u32 {
+    ghost from_gives = { λ r n. n ≡ number r };
+
+    fn from(r: Refusal) -> u32 {
+        match r {
+            Refusal::Shape => 1,
+            Refusal::Malformed => 2,
+            Refusal::Unsorted => 3,
+            Refusal::EmptyPrefix => 4,
+            Refusal::OutOfRange => 5,
+            Refusal::NoSuchSlot => 6,
+            Refusal::NotPrefix => 7,
+            Refusal::TooLong => 8,
+            Refusal::NotBelow => 9,
+            Refusal::NoRoom => 10,
+            Refusal::AlreadyPivot => 11,
+            Refusal::TooManyPivots => 12,
+            Refusal::NotMeeting => 13,
+            Refusal::EntriesUnsorted => 14,
+            Refusal::WrongIndex => 15,
+        }
+    }
 }
 
-// What compare answers: -1, 0 or 1.
-#[derive(Clone, Copy)]
-pub enum Compared {
-    Order(i64),
-    Refused(Refusal),
-}
-
-// What a question answers.
-#[derive(Clone, Copy)]
-pub enum Decided {
-    Yes,
-    No,
-    Refused(Refusal),
-}
-
-// What routing answers: the slot.
-#[derive(Clone, Copy)]
-pub enum Routed {
-    Slot(usize),
-    Refused(Refusal),
-}
-
-// What the edge of a slot is: a prefix of so many bytes, or absent.
-#[derive(Clone, Copy)]
+// What the edge of a slot is: a prefix of so many bytes, or absent. No Option, since document 02 (W10) gives edges a third
+// state, whose arm the compiler then asks for wherever an edge is matched.
+#[derive(Clone, Copy, Debug, PartialEq, Eq)]
 pub enum EdgeKind {
     Prefix(usize),
     Absent,
 }
 
 // The four ways in which a record is read; a key comes with its length.
-#[derive(Clone, Copy)]
+#[derive(Clone, Copy, Debug, PartialEq, Eq)]
 pub enum Reading {
     Key(usize),
     Malformed,

@@ -1,3 +1,4 @@
 pub mod Lengths
 pub mod Placing
 pub mod Reading
+pub mod Rules

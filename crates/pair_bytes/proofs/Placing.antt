@@ -1,4 +1,5 @@
 -- A result's record in its destination.
+use Rattle.std.specs.Prelude.{Result, Ok, Err}
 use mathlib.Core.Path.{◌≡◌, refl, ◌∙◌}
 use mathlib.Core.Bool.{Bool, true, false, or-false}
 use mathlib.Core.List.{List, [], ◌∷◌, ◌++◌, map, append_assoc}
@@ -11,8 +12,6 @@ use borrow.Rule.Slice.PartMut.{put_mid}
 use lib.ListN.{length, take, drop, length-append}
 use Rattle.model.specs.declared.Refusal.{Refusal}
 use Rattle.model.specs.declared.Refusal.TheVariants.{NoRoom}
-use Rattle.model.specs.declared.Answer.{Answer}
-use Rattle.model.specs.declared.Answer.TheVariants as answers
 use Rattle.model.specs.keys.Key.{max_len}
 use Rattle.model.specs.inner.Written.{into}
 use Rattle.model.specs.translation.PrefixSet.{PrefixSet}
@@ -72,21 +71,21 @@ put_fitting s d f = rw (le-ltb max_len s.old_length f.old, le-ltb max_len s.new_
 
 -- ---- an answer and its pair
 
-module _ (a : Answer) (d : List ℕ) where
+module _ (a : Result ℕ Refusal) (d : List ℕ) where
   -- a refusal is handed on
-  module _ (r : Refusal) (h : a ≡ answers.Refused r) where
-    pub refused_placed : a ≡ placed_answer a d
+  module _ (r : Refusal) (h : a ≡ Err r) where
+    pub refused_placed : (x : Result ℕ Refusal) → x ≡ Err r → x ≡ placed_answer a d
     unfolding placed_answer
-    refused_placed = rw h
+    refused_placed x e = rw h e
 
     pub refused_kept : (s : PairState) → d ≡ placed_leaves a s d
     unfolding placed_leaves
     refused_kept s = rw h
 
-  module _ (n : ℕ) (h : a ≡ answers.Value n) where
+  module _ (n : ℕ) (h : a ≡ Ok n) where
     -- without room it is 10
     module _ (c : length d < pair_size) where
-      pub crowded_placed : answers.Refused NoRoom ≡ placed_answer a d
+      pub crowded_placed : Err NoRoom ≡ placed_answer a d
       unfolding placed_answer outcome
       crowded_placed = rw (h, lt-ltb (length d) pair_size c)
 
@@ -123,9 +122,9 @@ placed_leaves_lem [] n o d f = put_fitting (state_of o) d f
 placed_leaves_lem ((true ⇒ r) ∷ cs) n o d f = refl
 placed_leaves_lem ((false ⇒ r) ∷ cs) n o d f = placed_leaves_lem cs n o d f
 
-module _ (cs : List Cause) (o : Option PrefixSet) (d : List ℕ) (a : Answer) (h : a ≡ pair_answer cs o) where
+module _ (cs : List Cause) (o : Option PrefixSet) (d : List ℕ) (a : Result ℕ Refusal) (h : a ≡ pair_answer cs o) where
   -- so it is of a call that answers a pair
-  pub placed_answer_lem : (x : Answer) → x ≡ placed_answer a d → x ≡ pair_answer (cs ++ pair_room d) o
+  pub placed_answer_lem : (x : Result ℕ Refusal) → x ≡ placed_answer a d → x ≡ pair_answer (cs ++ pair_room d) o
   placed_answer_lem x e = e ∙ rw h (placed_outcome cs (there_number o) d)
 
   pub placed_written : (z : PairState) (w : List ℕ) → Fitting (pair_beside cs o) → z ≡ pair_beside cs o → w ≡ placed_leaves a z d

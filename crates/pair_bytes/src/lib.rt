@@ -6,11 +6,11 @@ ghost use Rattle.std.specs.Prelude.{◌≡◌, ◌∷◌, [], ◌/◌, ◌%◌, 
 ghost use Rattle.model.specs.keys.Key.{max_len};
 ghost use Rattle.model.specs.translation.PairRecord.{pair_size, flag, encode_state};
 ghost use Rattle.model.specs.calls.Refusals.{over};
-ghost use Rattle.pairs.specs.State.{state};
+ghost use Rattle.pairs.specs.State.{state, told_there, state_beside};
 ghost use Rattle.pair_bytes.specs.Placed.{state_read, state_put, placed_answer, placed_leaves};
 
-use model::{Answer, MAX_LEN, PAIR_SIZE, Refusal};
-use pairs::{Paired, PrefixSet};
+use model::{MAX_LEN, PAIR_SIZE, Refusal};
+use pairs::PrefixSet;
 
 // Where the two length fields stand, after the flag, and the two arrays.
 pub const OLD_LEN: usize = 1;
@@ -21,13 +21,8 @@ pub const OLD: usize = 5;
 
 pub const NEW: usize = OLD + MAX_LEN;
 
-fn wide(x: u16) -> usize
-    ensures { result ≡ x }
-{
-    x as usize
-}
-
 // The pair that a record holds, whatever its flag; of a slice that isn't a record the absent one.
+#[tactic(auto, using(crate::proofs::Rules::read_pair))]
 pub fn read_pair(rec: &[u8]) -> PrefixSet
     ensures { state result ≡ state_read rec.now }
 {
@@ -35,8 +30,8 @@ pub fn read_pair(rec: &[u8]) -> PrefixSet
         return PrefixSet::absent();
     }
     let there = rec[0] == 1;
-    let oldlen = wide(records::length_field(&rec[OLD_LEN..]));
-    let newlen = wide(records::length_field(&rec[NEW_LEN..]));
+    let oldlen = usize::from(records::length_field(&rec[OLD_LEN..]));
+    let newlen = usize::from(records::length_field(&rec[NEW_LEN..]));
     let old = pairs::padded(&rec[OLD..NEW]);
     let new = pairs::padded(&rec[NEW..]);
     PrefixSet {
@@ -48,23 +43,13 @@ pub fn read_pair(rec: &[u8]) -> PrefixSet
     }
 }
 
-// The flag: 1 where the pair is there, 0 where it is absent.
-fn mark(there: bool) -> u8
-    ensures { result ≡ flag there }
-{
-    if there {
-        return 1;
-    }
-    0
-}
-
 // The flag and the two length fields.
 fn header(there: bool, oldlen: usize, newlen: usize) -> [u8; OLD]
     requires { (oldlen ≤ max_len) × (newlen ≤ max_len) }
     ensures { result ≡ flag there ∷ oldlen / 256 ∷ oldlen % 256 ∷ newlen / 256 ∷ newlen % 256 ∷ [] }
 {
     [
-        mark(there),
+        u8::from(there),
         (oldlen / 256) as u8,
         (oldlen % 256) as u8,
         (newlen / 256) as u8,
@@ -73,15 +58,14 @@ fn header(there: bool, oldlen: usize, newlen: usize) -> [u8; OLD]
 }
 
 // Writes a pair's record to the head of dest, which has room for it.
+#[tactic(auto, using(crate::proofs::Rules::write_pair))]
 fn write_pair(pair: PrefixSet, dest: &mut [u8])
     requires { (pair.oldlen ≤ max_len) × (pair.newlen ≤ max_len) × (pair_size ≤ length dest.old) }
     ensures { dest.new ≡ over (encode_state (state pair)) dest.old }
 {
     let head = header(pair.there, pair.oldlen, pair.newlen);
-    let old = pair.old;
-    let new = pair.new;
-    records::join(&head, &old, dest);
-    records::copy(&new, &mut dest[NEW..]);
+    records::join(&head, &pair.old, dest);
+    records::copy(&pair.new, &mut dest[NEW..]);
 }
 
 // Writes a pair's record to the head of dest. Nothing is written where there is no room for it, or where a length passes
@@ -102,20 +86,17 @@ pub fn put_pair(pair: PrefixSet, dest: &mut [u8])
     write_pair(pair, dest);
 }
 
-// An answer with the pair beside it: a refusal is handed on; else 10 where there is no room for a record, and else
-// the pair is written to the head of dest, as `put_pair` does.
-pub fn place_pair(made: Paired, dest: &mut [u8]) -> Answer
-    ensures answered { result ≡ placed_answer made.answer dest.old }
-    ensures written { dest.new ≡ placed_leaves made.answer (state made.pair) dest.old }
+// Places the pair of a call's result: a refusal is handed on; else 10 where there is no room for a record, and else the
+// pair is written to the head of dest, as `put_pair` does. Answers 1 where the pair is there, 0 where it is absent.
+#[tactic(auto, using(crate::proofs::Rules::place_pair))]
+pub fn place_pair(made: Result<PrefixSet, Refusal>, dest: &mut [u8]) -> Result<usize, Refusal>
+    ensures answered { result ≡ placed_answer (told_there made) dest.old }
+    ensures written { dest.new ≡ placed_leaves (told_there made) (state_beside made) dest.old }
 {
-    let answer = made.answer;
-    let Answer::Value(_) = answer else {
-        return answer;
-    };
+    let pair = made?;
     if dest.len() < PAIR_SIZE {
-        return Answer::Refused(Refusal::NoRoom);
+        return Err(Refusal::NoRoom);
     }
-    let pair = made.pair;
     put_pair(pair, dest);
-    answer
+    Ok(usize::from(pair.there))
 }

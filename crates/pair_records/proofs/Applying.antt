@@ -1,4 +1,6 @@
 -- A pair applied from its record: a change of prefix, by the record's own bytes.
+use Rattle.std.specs.Prelude.{Result}
+use Rattle.model.specs.declared.Refusal.{Refusal}
 use mathlib.Core.Path.{◌≡◌, refl, sym, ◌∙◌}
 use mathlib.Core.Bool.{true, false}
 use mathlib.Core.List.{List}
@@ -7,7 +9,6 @@ use native.Mathlib.Omega.{arith}
 use borrow.Author.Tests.{lt-ltb, le-ltb}
 use lib.ListN.{length, take, drop, get_or}
 use lib.Seq.{take-take}
-use Rattle.model.specs.declared.Answer.{Answer}
 use Rattle.model.specs.keys.Key.{Key, max_len}
 use Rattle.model.specs.records.Record.{length_field}
 use Rattle.model.specs.translation.PairState.{not_pair}
@@ -23,7 +24,7 @@ use Rattle.pair_bytes.proofs.Reading.{sized, flagged}
 
 -- with a flag of 0 or 1 it is the pair's own call
 module _ (b d : List ℕ) (k : Key) (h : length b ≡ pair_size) (i : get_or b 0 0 ≤ 1) where
-  answered : (x : Answer) → x ≡ apply_answer (state_at b) k d → x ≡ apply_pair_answer b k d
+  answered : (x : Result ℕ Refusal) → x ≡ apply_answer (state_at b) k d → x ≡ apply_pair_answer b k d
   unfolding outcome
   answered x y = rw (sized b h, flagged b i) y
 
@@ -37,7 +38,7 @@ module _ (b d : List ℕ) (k : Key) (h : length b ≡ pair_size) (z : get_or b 0
   unfolding state_at
   no_pair = rw z
 
-  pub absent_answered : (x : Answer) → x ≡ change_prefix_answer k (take 0 k) (take 0 k) d → x ≡ apply_pair_answer b k d
+  pub absent_answered : (x : Result ℕ Refusal) → x ≡ change_prefix_answer k (take 0 k) (take 0 k) d → x ≡ apply_pair_answer b k d
   absent_answered x y =
       answered b d k h (omega arith) x (apply_absent (state_at b) false (not_there (state_at b) no_pair) refl k d (rw no_pair) x y)
 
@@ -85,7 +86,7 @@ module _ (b : List ℕ) (i : get_or b 0 0 ≤ 1) (z : get_or b 0 0 ≡ 0 → ⊥
         new_part_lem = let e : (head_size + max_len) + m - (head_size + max_len) ≡ m = omega arith in rw (← new_length_lem, take-take m 64 (drop (head_size + max_len) b) o, e)
 
         module _ (k d : List ℕ) (h : length b ≡ pair_size) where
-          pub changed_answered : (a : Answer) → a ≡ change_prefix_answer k (take (head_size + n - head_size) (drop head_size b)) (take ((head_size + max_len) + m - (head_size + max_len)) (drop (head_size + max_len) b)) d
+          pub changed_answered : (a : Result ℕ Refusal) → a ≡ change_prefix_answer k (take (head_size + n - head_size) (drop head_size b)) (take ((head_size + max_len) + m - (head_size + max_len)) (drop (head_size + max_len) b)) d
               → a ≡ apply_pair_answer b k d
           changed_answered a u =
               answered b d k h i a (apply_there (state_at b) false right refl k d (rw is_there) a (rw (old_part_lem, new_part_lem) at u))

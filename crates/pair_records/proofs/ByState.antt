@@ -1,11 +1,10 @@
 -- What the calls on pairs as records answer and leave, by the calls on the pairs that they hold.
+use Rattle.std.specs.Prelude.{Result, Err}
 use mathlib.Core.Path.{◌≡◌, ◌∙◌}
 use mathlib.Core.List.{List, ◌++◌}
 use Prim.Native.Nat.{ℕ, ◌≤◌}
 use lib.ListN.{length, get_or}
 use Rattle.model.specs.declared.Refusal.{Refusal}
-use Rattle.model.specs.declared.Answer.{Answer}
-use Rattle.model.specs.declared.Answer.TheVariants as answers
 use Rattle.model.specs.translation.PrefixSet.{RevPrefixSet, ComposePrefixSet}
 use Rattle.model.specs.translation.PairState.{PairState}
 use Rattle.model.specs.translation.PairRecord.{pair_size, state_at, pair_at}
@@ -24,12 +23,12 @@ module _ (b d : List ℕ) (s : PairState) (e : s ≡ state_read b) (h : length b
   unfolding outcome
   reverse_causes_lem f v = rw (sized b h, flagged b i)
 
-  module _ (a : Answer) (y : a ≡ reverse_answer s) where
+  module _ (a : Result ℕ Refusal) (y : a ≡ reverse_answer s) where
     at_record : a ≡ reverse_answer (state_at b)
     at_record = rw (e, record_read b h) at y
 
-    pub reverse_placed : (x : Answer) → x ≡ placed_answer a d → x ≡ reverse_pair_answer b d
-    reverse_placed x u = placed_answer_lem (reverse_causes (state_at b)) (RevPrefixSet (pair_at b)) d a at_record x u ∙ reverse_causes_lem answers.Refused _
+    pub reverse_placed : (x : Result ℕ Refusal) → x ≡ placed_answer a d → x ≡ reverse_pair_answer b d
+    reverse_placed x u = placed_answer_lem (reverse_causes (state_at b)) (RevPrefixSet (pair_at b)) d a at_record x u ∙ reverse_causes_lem Err _
 
     pub reverse_written : (z : PairState) (w : List ℕ) → z ≡ reverse_pair s → w ≡ placed_leaves a z d → w ≡ reverse_pair_leaves b d
     reverse_written z w g u =
@@ -44,14 +43,14 @@ module _ (b c d : List ℕ) (s t : PairState) (e : s ≡ state_read b) (f : t �
   unfolding outcome
   compose_causes_lem f v = rw (sized b h, sized c j, flagged b i, flagged c l)
 
-  module _ (a : Answer) (y : a ≡ compose_answer s t) where
+  module _ (a : Result ℕ Refusal) (y : a ≡ compose_answer s t) where
     at_records : a ≡ compose_answer (state_at b) (state_at c)
     at_records = rw (e, f, record_read b h, record_read c j) at y
 
-    pub compose_placed : (x : Answer) → x ≡ placed_answer a d → x ≡ compose_pairs_answer b c d
+    pub compose_placed : (x : Result ℕ Refusal) → x ≡ placed_answer a d → x ≡ compose_pairs_answer b c d
     compose_placed x u =
         placed_answer_lem (compose_causes (state_at b) (state_at c)) (ComposePrefixSet (pair_at b) (pair_at c)) d a at_records x u
-        ∙ compose_causes_lem answers.Refused _
+        ∙ compose_causes_lem Err _
 
     pub compose_written : (z : PairState) (w : List ℕ) → z ≡ compose_pair s t → w ≡ placed_leaves a z d → w ≡ compose_pairs_leaves b c d
     compose_written z w g u =

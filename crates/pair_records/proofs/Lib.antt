@@ -1,2 +1,3 @@
 pub mod Applying
 pub mod ByState
+pub mod Rules

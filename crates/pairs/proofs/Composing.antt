@@ -1,4 +1,5 @@
 -- Two pairs that are there, composed by a change of prefix of the longer old prefix.
+use Rattle.std.specs.Prelude.{Result, Ok, Err}
 use mathlib.Core.Path.{◌≡◌, refl, sym, ap, ◌∙◌}
 use mathlib.Core.Bool.{Bool, true, false, cond, not, ◌||◌, or_comm, or-false, false≢true}
 use mathlib.Core.List.{List, [], ◌∷◌}
@@ -8,23 +9,26 @@ use Prim.Native.Nat.{ℕ, ◌≤◌, ◌<◌}
 use native.Mathlib.Omega.{arith}
 use borrow.Author.Tests.{le-leb, lt-leb, le-ltb, lt-ltb}
 use lib.Dec.{leb}
-use lib.ListN.{length, take}
+use lib.ListN.{length}
 use Rattle.model.specs.declared.Refusal.{Refusal}
 use Rattle.model.specs.declared.Refusal.TheVariants.{NotPrefix, TooLong}
-use Rattle.model.specs.declared.Answer.{Answer}
-use Rattle.model.specs.declared.Answer.TheVariants as answers
 use Rattle.model.specs.keys.Key.{Key, too_long, IsPrefix, change_prefix}
 use Rattle.model.specs.inner.Written.{clipped}
 use Rattle.model.specs.translation.PrefixSet.{PrefixSet, pair, ApplyPrefixSet, Composable, ComposePrefixSet, long_pair}
-use Rattle.model.specs.translation.PairState.{PairState, state_of}
-use Rattle.model.specs.calls.Refusals.{Cause, ◌⇒◌, outcome, first, answer}
+use Rattle.model.specs.records.Record.{zeros, padded}
+use Rattle.model.specs.translation.PairState.{PairState, state_with, state_of}
+use Rattle.model.specs.calls.Refusals.{Cause, ◌⇒◌, outcome, first, answer, over}
 use Rattle.model.specs.calls.KeyCalls.{change_prefix_causes, change_prefix_answer, change_prefix_leaves}
 use Rattle.model.specs.calls.PairCalls.{there_number, pair_answer, pair_beside, composition}
 use Rattle.model.proofs.Lists.{clipped_all, le_or_lt}
 use Rattle.model.proofs.keys.Key.{prefix_refl, prefix_nested}
 use Rattle.model.proofs.calls.Refusals.{refused_by, passed, refused}
-use Rattle.model.proofs.calls.KeyCalls.{change_accepted, change_counts, change_most, change_head, change_inside}
+use Rattle.model.proofs.calls.KeyCalls.{change_accepted, change_counts}
 use Rattle.model.proofs.calls.TableCalls.{not_too_long}
+use Rattle.pairs.specs.State.{told_there, state_beside}
+use Rattle.pairs.specs.declared.PrefixSet as code
+use Rattle.pairs.proofs.Padding.{drop_zeros}
+use Rattle.pairs.proofs.States.{told_refused, refused_beside}
 
 -- of a change of prefix into 64 bytes, where all are short, only 7 and 8 may apply
 change_refusals : Key → Key → Key → List Cause
@@ -87,44 +91,56 @@ one_there c d = go (leb (length c.prefix) (length d.prefix))
 
 -- ---- what the change answers
 
-module _ (k p q room : List ℕ) (a : Answer) (h : a ≡ change_prefix_answer k p q room) where
+module _ (k p q room : List ℕ) (a : Result ℕ Refusal) (h : a ≡ change_prefix_answer k p q room) where
   -- its refusal is handed on
-  module _ (r : Refusal) (f : a ≡ answers.Refused r) (cs : List Cause) (e : first (change_prefix_causes k p q room) ≡ first cs) where
+  module _ (r : Refusal) (f : a ≡ Err r) (cs : List Cause) (e : first (change_prefix_causes k p q room) ≡ first cs) where
     refusal : first cs ≡ some r
     refusal = sym e ∙ refused (change_prefix_causes k p q room) _ a h r f
 
-    pub refusal_answer : (n : ℕ) (x : Answer) → x ≡ a → x ≡ answer cs n
-    refusal_answer n x y = refused_by answers.Refused _ x cs r refusal (y ∙ f)
+    module _ (x : Result code.PrefixSet Refusal) (g : x ≡ Err r) where
+      pub refusal_answer : (n : ℕ) → told_there x ≡ answer cs n
+      refusal_answer n = refused_by Err _ _ cs r refusal (told_refused x r g)
 
-    pub refusal_pair : (o : Option PrefixSet) (z : PairState) → z ≡ state_of none → z ≡ pair_beside cs o
-    refusal_pair o z y = refused_by (λ (_ : Refusal). state_of none) _ z cs r refusal y
+      pub refusal_pair : (o : Option PrefixSet) → state_beside x ≡ pair_beside cs o
+      refusal_pair o = refused_by (λ (_ : Refusal). state_of none) _ _ cs r refusal (refused_beside x r g)
 
   -- where it is accepted, the changed prefix stands at the head of its room
-  module _ (n : ℕ) (f : a ≡ answers.Value n) where
-    module _ (w : List ℕ) (g : w ≡ change_prefix_leaves k p q room) where
-      -- inside it
-      pub head_inside : length room ≡ 64 → n ≤ length w
-      head_inside x = change_inside k p q room a h n f w g (omega arith)
-
-      changed_is : clipped (take n w) ≡ change_prefix p q k
-      changed_is = rw (change_head k p q room a h n f w g) (clipped_all (change_prefix p q k) (omega (arith, change_counts k p q room a h n f, change_most k p q room a h n f)))
+  module _ (n : ℕ) (f : a ≡ Ok n) where
+    -- with zeros after it, where that was zeros
+    whole : (w : List ℕ) → room ≡ zeros 64 → w ≡ change_prefix_leaves k p q room → w ≡ padded (change_prefix p q k)
+    unfolding over
+    whole w z g =
+        g ∙ sym (passed (λ (_ : Refusal). room) _ _ (change_prefix_causes k p q room) (change_accepted k p q room a h n f) refl)
+        ∙ rw (z, drop_zeros)
 
     -- and the pair that is made is the outcome
     module _ (cs : List Cause) (e : first (change_prefix_causes k p q room) ≡ first cs) where
-      pub made_answer : (c d : PrefixSet) (x : Answer) → x ≡ answers.Value 1 → x ≡ pair_answer cs (ComposePrefixSet (some c) (some d))
-      made_answer c d x y = passed answers.Refused _ x cs (sym e ∙ change_accepted k p q room a h n f) (y ∙ ap answers.Value (one_there c d))
+      pub made_answer : (c d : PrefixSet) (x : Result ℕ Refusal) → x ≡ Ok 1 → x ≡ pair_answer cs (ComposePrefixSet (some c) (some d))
+      made_answer c d x y = passed Err _ x cs (sym e ∙ change_accepted k p q room a h n f) (y ∙ ap Ok (one_there c d))
 
-      pub made_pair : (o s : Option PrefixSet) (z : PairState) → z ≡ state_of s → s ≡ o → z ≡ pair_beside cs o
-      made_pair o s z y i = passed (λ (_ : Refusal). state_of none) _ z cs (sym e ∙ change_accepted k p q room a h n f) (y ∙ ap state_of i)
+      pub made_pair : (o : Option PrefixSet) (z : PairState) → z ≡ state_of o → z ≡ pair_beside cs o
+      made_pair o z y = passed (λ (_ : Refusal). state_of none) _ z cs (sym e ∙ change_accepted k p q room a h n f) y
 
 -- the pair that is made is the composed one
-module _ (ap aq bp bq room w : List ℕ) (a : Answer) (n : ℕ) (f : a ≡ answers.Value n) where
+module _ (ap aq bp bq room v w : List ℕ) (a : Result ℕ Refusal) (n : ℕ) (f : a ≡ Ok n) (z : room ≡ zeros 64) where
   pub second_made : a ≡ change_prefix_answer bp ap aq room → w ≡ change_prefix_leaves bp ap aq room → length bq ≤ 64 → length ap ≤ length bp
-      → pair (clipped bq) (clipped (take n w)) ≡ ComposePrefixSet (pair ap aq) (pair bp bq)
-  second_made h g d i = rw (composed_second ap aq bp bq i, clipped_all bq d, changed_is bp ap aq room a h n f w g)
+      → v ≡ padded (clipped bq)
+      → ◌≡◌ {A = PairState} (record { there = true; old_length = length bq; new_length = n; old_bytes = v; new_bytes = w }) (state_of (ComposePrefixSet (pair ap aq) (pair bp bq)))
+  unfolding state_of state_with
+  second_made h g d i e =
+      let x = change_counts bp ap aq room a h n f in
+      let y = whole bp ap aq room a h n f w z g in
+      let u = clipped_all bq d in
+      rw (composed_second ap aq bp bq i, e, x, y, u) refl
 
   pub first_made : a ≡ change_prefix_answer ap bp bq room → w ≡ change_prefix_leaves ap bp bq room → length aq ≤ 64 → length bp < length ap
-      → pair (clipped (take n w)) (clipped aq) ≡ ComposePrefixSet (pair ap aq) (pair bp bq)
-  first_made h g d i = rw (composed_first ap aq bp bq i, clipped_all aq d, changed_is ap bp bq room a h n f w g)
+      → v ≡ padded (clipped aq)
+      → ◌≡◌ {A = PairState} (record { there = true; old_length = n; new_length = length aq; old_bytes = w; new_bytes = v }) (state_of (ComposePrefixSet (pair ap aq) (pair bp bq)))
+  unfolding state_of state_with
+  first_made h g d i e =
+      let x = change_counts ap bp bq room a h n f in
+      let y = whole ap bp bq room a h n f w z g in
+      let u = clipped_all aq d in
+      rw (composed_first ap aq bp bq i, e, x, y, u) refl
 
-pub ruleset composing = (second_causes, first_causes, refusal_answer, refusal_pair, head_inside, made_answer, made_pair, second_made, first_made)
+pub ruleset composing = (second_causes, first_causes, refusal_answer, refusal_pair, made_answer, made_pair, second_made, first_made)

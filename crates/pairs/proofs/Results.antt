@@ -1,4 +1,5 @@
 -- What the methods of a pair return, by its state.
+use Rattle.std.specs.Prelude.{Result, Ok, Err}
 use mathlib.Core.Path.{◌≡◌, refl, ◌∙◌}
 use mathlib.Core.Bool.{Bool, true, false, not, or_comm, or-false}
 use mathlib.Core.List.{List, ◌∷◌, map}
@@ -9,8 +10,6 @@ use borrow.Author.Rules.{length_unmapped}
 use lib.ListN.{length, take}
 use Rattle.model.specs.declared.Refusal.{Refusal}
 use Rattle.model.specs.declared.Refusal.TheVariants.{Malformed}
-use Rattle.model.specs.declared.Answer.{Answer}
-use Rattle.model.specs.declared.Answer.TheVariants as answers
 use Rattle.model.specs.keys.Key.{Key, too_long, IsPrefix, change_prefix}
 use Rattle.model.specs.records.Record.{padded}
 use Rattle.model.specs.inner.Written.{clipped}
@@ -39,7 +38,7 @@ module _ (s : PairState) (t : Bool) (e : t ≡ not_pair s) (f : t ≡ false) whe
 
   module _ (g : not s.there ≡ true) where
     -- an absent pair stays absent
-    pub reverse_absent : (x : Answer) → x ≡ answers.Value 0 → x ≡ reverse_answer s
+    pub reverse_absent : (x : Result ℕ Refusal) → x ≡ Ok 0 → x ≡ reverse_answer s
     unfolding outcome RevPrefixSet there_number
     reverse_absent x h = rw (right, absent_of s g) h
 
@@ -49,7 +48,7 @@ module _ (s : PairState) (t : Bool) (e : t ≡ not_pair s) (f : t ≡ false) whe
 
   module _ (g : not s.there ≡ false) where
     -- of one that is there the prefixes are exchanged
-    pub reverse_there : (x : Answer) → x ≡ answers.Value 1 → x ≡ reverse_answer s
+    pub reverse_there : (x : Result ℕ Refusal) → x ≡ Ok 1 → x ≡ reverse_answer s
     unfolding outcome RevPrefixSet there_number
     reverse_there x h = rw (right, there_of s g) h
 
@@ -81,7 +80,7 @@ as_absent f v k d = as_pair f v k (take 0 k) (take 0 k) d (omega arith) (omega a
 module _ (s : PairState) (t : Bool) (e : t ≡ not_pair s) (f : t ≡ false) (k d : List ℕ) where
   module _ (g : not s.there ≡ true) where
     -- an absent pair leaves the key
-    pub apply_absent : (x : Answer) → x ≡ change_prefix_answer k (take 0 k) (take 0 k) d → x ≡ apply_answer s k d
+    pub apply_absent : (x : Result ℕ Refusal) → x ≡ change_prefix_answer k (take 0 k) (take 0 k) d → x ≡ apply_answer s k d
     unfolding ApplyPrefixSet change_prefix
     apply_absent x h = rw (right s t e f, absent_of s g) (h ∙ as_absent _ _ k d)
 
@@ -94,7 +93,7 @@ module _ (s : PairState) (t : Bool) (e : t ≡ not_pair s) (f : t ≡ false) (k 
     parts = short_pair s (right s t e f) g
 
     -- one that is there changes its prefix
-    pub apply_there : (x : Answer) → x ≡ change_prefix_answer k (old_part s) (new_part s) d → x ≡ apply_answer s k d
+    pub apply_there : (x : Result ℕ Refusal) → x ≡ change_prefix_answer k (old_part s) (new_part s) d → x ≡ apply_answer s k d
     unfolding ApplyPrefixSet
     apply_there x h = rw (right s t e f, there_of s g) (h ∙ as_pair _ _ k (old_part s) (new_part s) d parts.old parts.new)
 
@@ -126,9 +125,9 @@ module _ (s r : PairState) (t u : Bool) (e : t ≡ not_pair s) (f : t ≡ false)
     unfolding outcome Composable ComposePrefixSet
     undone = rw (right s t e f, right r u i j, absent_of s g, long_reverse (pair_of r), not_long r (right r u i j))
 
-    pub undo_answer : (x : Answer) → x ≡ reverse_answer r → x ≡ compose_answer s r
+    pub undo_answer : (x : Result ℕ Refusal) → x ≡ reverse_answer r → x ≡ compose_answer s r
     unfolding outcome ComposePrefixSet
-    undo_answer x h = passed answers.Refused _ x (compose_causes s r) undone (rw (absent_of s g) (rw (right r u i j) at h))
+    undo_answer x h = passed Err _ x (compose_causes s r) undone (rw (absent_of s g) (rw (right r u i j) at h))
 
     pub undo_pair : (z : PairState) → z ≡ reverse_pair r → z ≡ compose_pair s r
     unfolding outcome ComposePrefixSet
@@ -143,9 +142,9 @@ module _ (s r : PairState) (t u : Bool) (e : t ≡ not_pair s) (f : t ≡ false)
           let l : long_pair (pair (old_part s) (new_part s)) ≡ false = rw (there_of s g) at (not_long s (right s t e f)) in
           rw (right s t e f, right r u i j, absent_of r k, there_of s g, l)
 
-      pub do_answer : (x : Answer) → x ≡ answers.Value 1 → x ≡ compose_answer s r
+      pub do_answer : (x : Result ℕ Refusal) → x ≡ Ok 1 → x ≡ compose_answer s r
       unfolding ComposePrefixSet there_number
-      do_answer x h = passed answers.Refused _ x (compose_causes s r) done (rw (absent_of r k, there_of s g) h)
+      do_answer x h = passed Err _ x (compose_causes s r) done (rw (absent_of r k, there_of s g) h)
 
       pub do_pair : (z : PairState) → z ≡ state_of (pair (clipped (old_part s)) (clipped (new_part s))) → z ≡ compose_pair s r
       unfolding ComposePrefixSet
@@ -156,7 +155,7 @@ module _ (s r : PairState) (t u : Bool) (e : t ≡ not_pair s) (f : t ≡ false)
 
     -- where both are there, they are composed
     module _ (k : not r.there ≡ false) where
-      pub both_answer : (x : Answer)
+      pub both_answer : (x : Result ℕ Refusal)
           → x ≡ pair_answer (composition (pair (old_part s) (new_part s)) (pair (old_part r) (new_part r)))
           (ComposePrefixSet (pair (old_part s) (new_part s)) (pair (old_part r) (new_part r)))
           → x ≡ compose_answer s r

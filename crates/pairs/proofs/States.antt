@@ -1,21 +1,31 @@
--- What a pair's state says: whether it is malformed, and the pair that it stands for.
-use mathlib.Core.Path.{◌≡◌, refl, sym, ◌∙◌}
-use mathlib.Core.Bool.{Bool, true, false, not, ◌||◌, true≢false}
-use mathlib.Core.List.{List, [], map}
+-- What a pair's state says: whether it is malformed, and the pair that it stands for; and what a result with one tells.
+use Rattle.std.specs.Prelude.{Result, Ok, Err}
+use mathlib.Core.Path.{◌≡◌, refl, sym, ap, ◌∙◌}
+use mathlib.Core.Bool.{Bool, true, false, not, ◌&&◌, ◌||◌, true≢false}
+use mathlib.Core.List.{List, []}
 use mathlib.Core.Option.{none}
 use Prim.Native.Nat.{ℕ, ◌≤◌, ◌<◌, min}
 use native.Mathlib.Omega.{arith}
-use borrow.Author.Rules.{length_unmapped}
 use borrow.Author.Tests.{lt-ltb, le-ltb, ltb-false, not-false, not-true}
 use lib.Dec.{ltb}
 use lib.ListN.{length, take, length-take}
+use Rattle.model.specs.declared.Refusal.{Refusal}
 use Rattle.model.specs.records.Record.{padded}
 use Rattle.model.specs.inner.Written.{clipped}
 use Rattle.model.specs.translation.PrefixSet.{pair}
 use Rattle.model.specs.translation.PairState.{PairState, not_pair, pair_of, state_with, state_of}
+use Rattle.model.specs.translation.PairRecord.{flag}
+use Rattle.pairs.specs.State.{state, told_there, state_beside}
+use Rattle.pairs.specs.declared.PrefixSet as code
 use Rattle.model.proofs.Lists.{part_counts}
 
 -- ---- the test
+
+-- it is the code's
+pub malformed_is : (y : Bool) (n m : ℕ) (a b : List ℕ)
+    → (y && (ltb 64 n || ltb 64 m)) ≡ not_pair (record { there = y; old_length = n; new_length = m; old_bytes = a; new_bytes = b })
+unfolding not_pair
+malformed_is y n m a b = refl
 
 module _ (s : PairState) where
   -- a pair that is there is malformed by its first length
@@ -40,6 +50,29 @@ told_true t b e h = sym e ∙ h
 -- or does not
 pub told_false : (t b : Bool) → t ≡ b → t ≡ false → b ≡ false
 told_false t b e h = sym e ∙ h
+
+-- ---- what a result tells
+
+module _ (p : code.PrefixSet) where
+  -- of the absent pair 0
+  pub told_absent : state p ≡ state_of none → told_there (Ok p) ≡ Ok 0
+  unfolding state_of state_with
+  told_absent h = ap (λ (s : PairState). Ok (flag s.there)) h
+
+  -- of one that is there 1
+  pub told_pair : (a b : List ℕ) → state p ≡ state_of (pair a b) → told_there (Ok p) ≡ Ok 1
+  unfolding state_of state_with
+  told_pair a b h = ap (λ (s : PairState). Ok (flag s.there)) h
+
+-- of a refusal itself, and the absent pair
+module _ (x : Result code.PrefixSet Refusal) (r : Refusal) (h : x ≡ Err r) where
+  pub told_refused : told_there x ≡ Err r
+  told_refused = rw h
+
+  pub refused_beside : state_beside x ≡ state_of none
+  refused_beside = rw h
+
+pub ruleset telling = (told_absent, told_pair, told_refused, refused_beside)
 
 -- ---- the pair
 
@@ -104,16 +137,9 @@ module _ (y t : Bool) (n m : ℕ) (a b : List ℕ)
   short : Short n m
   short = lengths _ (told_false t _ e f) g
 
-  -- its prefixes end inside arrays of 64 bytes
-  pub old_inside : (c : List ℕ) → length (map (λ (v : ℕ). v) c) ≡ 64 → n ≤ length c
-  old_inside c i = let s = short in omega (arith, length_unmapped ℕ c 64 i)
+  -- its prefixes end inside their arrays
+  pub old_inside : n ≤ 64
+  old_inside = short.old
 
-  pub new_inside : (c : List ℕ) → length (map (λ (v : ℕ). v) c) ≡ 64 → m ≤ length c
-  new_inside c i = let s = short in omega (arith, length_unmapped ℕ c 64 i)
-
-  -- and have at most 64 bytes
-  pub old_short : length (take n a) ≤ 64
-  old_short = (short_pair _ (told_false t _ e f) g).old
-
-  pub new_short : length (take m b) ≤ 64
-  new_short = (short_pair _ (told_false t _ e f) g).new
+  pub new_inside : m ≤ 64
+  new_inside = short.new

@@ -10,14 +10,15 @@ ghost use Rattle.model.specs.inner.Written.{clipped};
 ghost use Rattle.model.specs.translation.PrefixSet.{pair};
 ghost use Rattle.model.specs.translation.PairState.{not_pair, state_of};
 ghost use Rattle.model.specs.calls.PairCalls.{reverse_answer, reverse_pair, apply_answer, apply_leaves, compose_answer, compose_pair};
-ghost use Rattle.pairs.specs.State.{state};
+ghost use Rattle.pairs.specs.State.{state, told_there, state_beside};
 
-use compose::{beside, composed, made, there};
-use model::{Answer, MAX_LEN, Refusal};
+use compose::composed;
+use model::{MAX_LEN, Refusal};
 use pad::cleared;
 pub use pad::padded;
 
 // A pair that is there, or an absent one: a flag, two lengths, and the old and the new prefix at the heads of two arrays.
+// A flag and no `Option`, since the paper's state by value has lengths and arrays where it is absent, too.
 #[derive(Clone, Copy)]
 pub struct PrefixSet {
     pub there: bool,
@@ -27,122 +28,103 @@ pub struct PrefixSet {
     pub new: [u8; MAX_LEN],
 }
 
-// A pair and the answer beside it: 1 where the pair is there, 0 where it is absent. Beside a refusal it is absent.
-#[derive(Clone, Copy)]
-pub struct Paired {
-    pub answer: Answer,
-    pub pair: PrefixSet,
-}
-
 impl PrefixSet {
     // The absent pair.
+    #[tactic(auto, using(crate::proofs::Rules::absent))]
     pub fn absent() -> Self
         ensures { state result ≡ state_of none }
     {
-        let old = [0u8; MAX_LEN];
-        let new = [0u8; MAX_LEN];
         PrefixSet {
             there: false,
             oldlen: 0,
             newlen: 0,
-            old,
-            new,
+            old: [0; MAX_LEN],
+            new: [0; MAX_LEN],
         }
     }
 
     // The pair of an old and a new prefix, of each the first 64 bytes.
+    #[tactic(auto, using(crate::proofs::Rules::of))]
     pub fn of(old: &[u8], new: &[u8]) -> Self
-        ensures { state result ≡ state_of (pair (clipped old.entry.now) (clipped new.entry.now)) }
+        ensures { state result ≡ state_of (pair (clipped old.now) (clipped new.now)) }
     {
-        let oldlen = scan::least(old.len(), MAX_LEN);
-        let newlen = scan::least(new.len(), MAX_LEN);
-        let p = padded(old);
-        let q = padded(new);
         PrefixSet {
             there: true,
-            oldlen,
-            newlen,
-            old: p,
-            new: q,
+            oldlen: old.len().min(MAX_LEN),
+            newlen: new.len().min(MAX_LEN),
+            old: padded(old),
+            new: padded(new),
         }
     }
 
     // Whether a length of a pair that is there passes 64.
+    #[tactic(auto, using(crate::proofs::Rules::malformed))]
     fn malformed(self) -> bool
         ensures { result ≡ not_pair (state self) }
     {
-        if self.there {
-            if MAX_LEN < self.oldlen {
-                return true;
-            }
-            return MAX_LEN < self.newlen;
-        }
-        false
+        self.there && (MAX_LEN < self.oldlen || MAX_LEN < self.newlen)
     }
 
     // RevPrefixSet: the pair with its prefixes exchanged. An absent pair stays absent. Refuses 2.
-    pub fn reverse(self) -> Paired
-        ensures answered { result.answer ≡ reverse_answer (state self) }
-        ensures paired { state result.pair ≡ reverse_pair (state self) }
+    #[tactic(auto, using(crate::proofs::Rules::reverse))]
+    pub fn reverse(self) -> Result<PrefixSet, Refusal>
+        ensures answered { told_there result ≡ reverse_answer (state self) }
+        ensures paired { state_beside result ≡ reverse_pair (state self) }
     {
         if self.malformed() {
-            return beside(Answer::Refused(Refusal::Malformed));
+            return Err(Refusal::Malformed);
         }
         if !self.there {
-            return beside(Answer::Value(0));
+            return Ok(PrefixSet::absent());
         }
-        let old = self.old;
-        let new = self.new;
-        let n = self.oldlen;
-        let m = self.newlen;
-        there(cleared(&new, m), m, cleared(&old, n), n)
+        Ok(PrefixSet {
+            there: true,
+            oldlen: self.newlen,
+            newlen: self.oldlen,
+            old: cleared(self.new, self.newlen),
+            new: cleared(self.old, self.oldlen),
+        })
     }
 
     // ApplyPrefixSet: the key with the old prefix changed to the new one, at the head of dest. An absent pair leaves
     // the key as it is. Answers the length. Refuses 2, 7, 8 and 10.
-    pub fn apply(self, key: &[u8], dest: &mut [u8]) -> Answer
+    #[tactic(auto, using(crate::proofs::Rules::apply))]
+    pub fn apply(self, key: &[u8], dest: &mut [u8]) -> Result<usize, Refusal>
         ensures answered { result ≡ apply_answer (state self) key.now dest.old }
         ensures written { dest.new ≡ apply_leaves (state self) key.now dest.old }
     {
         if self.malformed() {
-            return Answer::Refused(Refusal::Malformed);
+            return Err(Refusal::Malformed);
         }
         if !self.there {
             // ε changed to ε: the key itself
             return keys::change_prefix_small(key, &key[..0], &key[..0], dest);
         }
-        let old = self.old;
-        let new = self.new;
-        let n = self.oldlen;
-        let m = self.newlen;
-        keys::change_prefix_small(key, &old[..n], &new[..m], dest)
+        keys::change_prefix_small(
+            key,
+            &self.old[..self.oldlen],
+            &self.new[..self.newlen],
+            dest,
+        )
     }
 
     // ComposePrefixSet: the pair that undoes b and then does this one. Refuses 2, 7 and 8.
-    pub fn compose(self, b: PrefixSet) -> Paired
-        ensures answered { result.answer ≡ compose_answer (state self) (state b) }
-        ensures paired { state result.pair ≡ compose_pair (state self) (state b) }
+    #[tactic(auto, using(crate::proofs::Rules::compose))]
+    pub fn compose(self, b: PrefixSet) -> Result<PrefixSet, Refusal>
+        ensures answered { told_there result ≡ compose_answer (state self) (state b) }
+        ensures paired { state_beside result ≡ compose_pair (state self) (state b) }
     {
-        if self.malformed() {
-            return beside(Answer::Refused(Refusal::Malformed));
-        }
-        if b.malformed() {
-            return beside(Answer::Refused(Refusal::Malformed));
+        if self.malformed() || b.malformed() {
+            return Err(Refusal::Malformed);
         }
         if !self.there {
             return b.reverse();
         }
-        let ap = self.old;
-        let aq = self.new;
-        let n = self.oldlen;
-        let m = self.newlen;
+        let old = &self.old[..self.oldlen];
+        let new = &self.new[..self.newlen];
         if !b.there {
-            return made(&ap[..n], &aq[..m]);
+            return Ok(PrefixSet::of(old, new));
         }
-        let bp = b.old;
-        let bq = b.new;
-        let i = b.oldlen;
-        let j = b.newlen;
-        composed(&ap[..n], &aq[..m], &bp[..i], &bq[..j])
+        composed(old, new, &b.old[..b.oldlen], &b.new[..b.newlen])
     }
 }

@@ -1,18 +1,15 @@
 -- Whether a table holds the range between two elements, by its first and its last record.
 use mathlib.Core.Path.{◌≡◌, sym, ◌∙◌}
-use mathlib.Core.Bool.{Bool, true, false}
+use mathlib.Core.Bool.{Bool, true, false, not, not-not}
 use mathlib.Core.List.{List}
 use Prim.Native.Nat.{ℕ, ◌-◌, ◌/◌}
 use native.Mathlib.Omega.{arith}
 use borrow.Author.Tests.{not-true, not-false}
 use lib.ListN.{length}
-use Rattle.model.specs.declared.Decided.{Decided}
-use Rattle.model.specs.declared.Decided.TheVariants.{Yes, No}
 use Rattle.model.specs.keys.Order.{Element, lte, lt}
 use Rattle.model.specs.records.Record.{element, elements}
 use Rattle.model.specs.inner.Places.{record_at}
 use Rattle.model.specs.tables.Tables.{pivot_at, last_pivot, WFPivots, ContainsRange}
-use Rattle.model.specs.calls.Refusals.{yes_or_no}
 use Rattle.model.proofs.calls.TableCalls.{element_at}
 use Rattle.model.proofs.calls.PivotKeys.{last_counted, last_element}
 
@@ -23,7 +20,7 @@ module _ (c : List ℕ) (wf : WFPivots (elements c) ≡ true) where
     begins_at = rw (e, element_at c 0 (omega (arith, last_counted c wf)))
 
     -- the range begins before the table
-    pub begins_before : t ≡ true → No ≡ yes_or_no (ContainsRange (elements c) l r)
+    pub begins_before : t ≡ true → false ≡ ContainsRange (elements c) l r
     unfolding ContainsRange
     begins_before h = rw (begins_at, not-true (lte (element a) l) (sym f ∙ h))
 
@@ -36,17 +33,7 @@ module _ (c : List ℕ) (wf : WFPivots (elements c) ≡ true) where
       last_is : last_pivot (elements c) ≡ element b
       last_is = rw g (last_element c wf)
 
-      -- the range ends after the table
-      pub ends_after : u ≡ true → No ≡ yes_or_no (ContainsRange (elements c) l r)
+      -- it lies in the table where it doesn't end after it
+      pub lies_in : not u ≡ ContainsRange (elements c) l r
       unfolding ContainsRange
-      ends_after i = rw (begins_in, last_is, not-true (lte r (element b)) (sym w ∙ i))
-
-      -- it lies in the table
-      pub lies_in : u ≡ false → Yes ≡ yes_or_no (ContainsRange (elements c) l r)
-      unfolding ContainsRange
-      lies_in i = rw (begins_in, last_is, not-false (lte r (element b)) (sym w ∙ i))
-
--- the range between two records is that between what they stand for
-pub of_pair : (c v a b : List ℕ) (y : Decided) → a ≡ record_at v 0 → b ≡ record_at v 1 → y ≡ yes_or_no (ContainsRange (elements c) (element a) (element b))
-    → y ≡ yes_or_no (ContainsRange (elements c) (element (record_at v 0)) (element (record_at v 1)))
-of_pair c v a b y e f h = rw (e, f) at h
+      lies_in = rw (begins_in, last_is, w, not-not (lte r (element b)))

@@ -1,4 +1,5 @@
 -- The causes of a parent and a child in one list: its answer is the earlier of the two checks'.
+use Rattle.std.specs.Prelude.{Result, Ok, Err}
 use mathlib.Core.Path.{◌≡◌, refl, ◌∙◌}
 use mathlib.Core.Bool.{true, false, not}
 use mathlib.Core.List.{List, [], ◌∷◌}
@@ -6,8 +7,6 @@ use mathlib.Core.Option.{none, some}
 use Prim.Native.Nat.{ℕ}
 use Rattle.model.specs.declared.Refusal.{Refusal}
 use Rattle.model.specs.declared.Refusal.TheVariants.{Shape, Malformed, Unsorted, EmptyPrefix}
-use Rattle.model.specs.declared.Answer.{Answer}
-use Rattle.model.specs.declared.Answer.TheVariants.{Value, Refused}
 use Rattle.model.specs.records.Record.{records, elements}
 use Rattle.model.specs.tables.Tables.{IsStrictlySorted, WFPivots}
 use Rattle.model.specs.calls.Refusals.{◌⇒◌, outcome, paired, first, answer}
@@ -34,10 +33,10 @@ module _ (p e c : List ℕ) where
   in_step_lem = refl
 
   -- so the earlier refusal of the two checks is the answer
-  pub checked : (x a b : Answer) (m n : ℕ) → a ≡ answer (table_causes false false p e) m → b ≡ answer (pivot_causes false false c) n
+  pub checked : (x a b : Result ℕ Refusal) (m n : ℕ) → a ≡ answer (table_causes false false p e) m → b ≡ answer (pivot_causes false false c) n
       → x ≡ earlier a b → x ≡ answer (three_tables_causes p e c) m
   checked x a b m n f g h =
-      told_earlier (table_causes false false p e) (pivot_causes false false c) m n x a b in_step_lem f g h ∙ merged Refused (Value m)
+      told_earlier (table_causes false false p e) (pivot_causes false false c) m n x a b in_step_lem f g h ∙ merged Err (Ok m)
 
   module _ (h : first (three_tables_causes p e c) ≡ none) where
     -- where none of them applies, neither list has one

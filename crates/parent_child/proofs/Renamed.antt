@@ -1,4 +1,5 @@
 -- The bounds of a slot under its edge, made as two records: of the causes of the change only 8 may apply.
+use Rattle.std.specs.Prelude.{Result, Ok, Err}
 use mathlib.Core.Path.{◌≡◌, refl, sym, ap, ◌∙◌}
 use mathlib.Core.Bool.{Bool, true, false}
 use mathlib.Core.List.{List, [], append-nil}
@@ -8,10 +9,6 @@ use borrow.Author.Tests.{eq-eqb, le-ltb, not-false}
 use lib.ListN.{length, take, drop_of_length-le}
 use Rattle.model.specs.declared.Refusal.{Refusal}
 use Rattle.model.specs.declared.Refusal.TheVariants.{TooLong}
-use Rattle.model.specs.declared.Answer.{Answer}
-use Rattle.model.specs.declared.Answer.TheVariants as answers
-use Rattle.model.specs.declared.Decided.{Decided}
-use Rattle.model.specs.declared.Decided.TheVariants as decided
 use Rattle.model.specs.keys.Key.{max_len, IsPrefix}
 use Rattle.model.specs.keys.Order.{key, lte}
 use Rattle.model.specs.records.Record.{record_size, key_bytes, element, elements, encode_all}
@@ -20,7 +17,7 @@ use Rattle.model.specs.ranges.RangePrefix.{PivotLcp}
 use Rattle.model.specs.tables.Tables.{all, short_element, ContainsRange}
 use Rattle.model.specs.translation.Renaming.{Bounds}
 use Rattle.model.specs.translation.ParentChild.{bounds_under}
-use Rattle.model.specs.calls.Refusals.{outcome, yes_or_no, answer, decision, over}
+use Rattle.model.specs.calls.Refusals.{outcome, answer, over}
 use Rattle.model.specs.calls.RenamingCalls.{new_bounds, both_bounds, long_bounds, pivot_pair_causes, pivot_pair_answer, pivot_pair_leaves}
 use Rattle.model.proofs.keys.Key.{both, prefix_length, prefix_is_take}
 use Rattle.model.proofs.keys.Order.{lt_false}
@@ -67,7 +64,7 @@ module _ (b : Bounds) (h : long_bounds b ≡ false) (d w : List ℕ) (z : length
 
 -- ---- the change of a slot's prefix to its edge
 
-module _ (l r x k q d : List ℕ) (n : ℕ) (a : Answer) (e : a ≡ pivot_pair_answer k r (take n k) q d) (f : k ≡ key_bytes l)
+module _ (l r x k q d : List ℕ) (n : ℕ) (a : Result ℕ Refusal) (e : a ≡ pivot_pair_answer k r (take n k) q d) (f : k ≡ key_bytes l)
     (g : n ≡ length (PivotLcp (key k) (element r))) (h : q ≡ key_bytes x) (s : Slot l r x) (z : length d ≡ 132) where
   -- the prefix is the range's
   prefix : take n k ≡ PivotLcp (key k) (element r)
@@ -108,21 +105,21 @@ module _ (l r x k q d : List ℕ) (n : ℕ) (a : Answer) (e : a ≡ pivot_pair_a
 
   -- so it alone makes the answer
   made : a ≡ answer (long_range_causes (new_range l r x)) 2
-  made = e ∙ only_long answers.Refused (answers.Value 2)
+  made = e ∙ only_long Err (Ok 2)
 
   -- its refusal is handed on
-  pub long_told : (y : Refusal) (v : Bool) → a ≡ answers.Refused y → decided.Refused y ≡ decision (long_range_causes (new_range l r x)) v
-  long_told y v i = refused_by decided.Refused (yes_or_no v) (decided.Refused y) _ y (refused (long_range_causes (new_range l r x)) 2 a made y i) refl
+  pub long_told : (y : Refusal) (v : Bool) (z : Result Bool Refusal) → a ≡ Err y → z ≡ Err y → z ≡ answer (long_range_causes (new_range l r x)) v
+  long_told y v z i o = refused_by Err (Ok v) z _ y (refused (long_range_causes (new_range l r x)) 2 a made y i) o
 
   -- else the new bounds stand in the two records
-  pub short_told : (c w : List ℕ) (m : ℕ) (y : Decided) → y ≡ yes_or_no (ContainsRange (elements c) (element (record_at w 0)) (element (record_at w 1)))
-      → w ≡ pivot_pair_leaves k r (take n k) q d → a ≡ answers.Value m
-      → y ≡ decision (long_range_causes (new_range l r x)) (ContainsRange (elements c) (new_range l r x).left (new_range l r x).right)
+  pub short_told : (c w : List ℕ) (m : ℕ) (y : Bool) → y ≡ ContainsRange (elements c) (element (record_at w 0)) (element (record_at w 1))
+      → w ≡ pivot_pair_leaves k r (take n k) q d → a ≡ Ok m
+      → Ok y ≡ answer (long_range_causes (new_range l r x)) (ContainsRange (elements c) (new_range l r x).left (new_range l r x).right)
   short_told c w m y o j i =
       let none_long = accepted (long_range_causes (new_range l r x)) 2 a made m i in
       let short-both = none_here (long_bounds (new_range l r x)) TooLong [] none_long in
       let old = over (encode_all (both_bounds (new_bounds k r (take n k) q))) d in
       let leaves-old : w ≡ old = j ∙ only_long (λ (_ : Refusal). d) old ∙ sym (passed (λ (_ : Refusal). d) old old (long_range_causes (new_range l r x)) none_long refl) in
       let leaves-both : w ≡ over (encode_all (both_bounds (new_range l r x))) d = leaves-old ∙ ap (λ (b : Bounds). over (encode_all (both_bounds b)) d) bounds in
-      passed decided.Refused _ y _ none_long
-      (rw (left_read (new_range l r x) short-both d w z leaves-both, right_read (new_range l r x) short-both d w z leaves-both) at o)
+      passed Err _ (Ok y) _ none_long
+      (ap Ok (rw (left_read (new_range l r x) short-both d w z leaves-both, right_read (new_range l r x) short-both d w z leaves-both) at o))

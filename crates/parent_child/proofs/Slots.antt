@@ -1,5 +1,7 @@
 -- The slot that is asked about: cause 6, its own bounds where it has no edge, and its bounds under its edge.
-use mathlib.Core.Path.{◌≡◌, refl}
+use Rattle.std.specs.Prelude.{Result, Ok, Err}
+use Rattle.model.specs.declared.Refusal.{Refusal}
+use mathlib.Core.Path.{◌≡◌, ap, refl}
 use mathlib.Core.Bool.{Bool, false}
 use mathlib.Core.List.{List, []}
 use mathlib.Core.Option.{none}
@@ -8,8 +10,6 @@ use native.Mathlib.Omega.{arith}
 use borrow.Author.Tests.{lt-ltb, le-ltb, leb-true, le-leb}
 use lib.ListN.{length}
 use Rattle.model.specs.declared.Refusal.TheVariants.{NoSuchSlot, TooLong}
-use Rattle.model.specs.declared.Decided.{Decided}
-use Rattle.model.specs.declared.Decided.TheVariants.{Refused}
 use Rattle.model.specs.declared.EdgeKind.{EdgeKind}
 use Rattle.model.specs.declared.EdgeKind.TheVariants as kinds
 use Rattle.model.specs.keys.Key.{max_len}
@@ -19,7 +19,7 @@ use Rattle.model.specs.inner.EdgeKinds.{edge_kind}
 use Rattle.model.specs.inner.Places.{record_at}
 use Rattle.model.specs.tables.Tables.{pivot_at, edge_at, ContainsRange}
 use Rattle.model.specs.translation.ParentChild.{bounds_under, slot_bounds, ParentKeysInChildRange}
-use Rattle.model.specs.calls.Refusals.{first, yes_or_no, decision}
+use Rattle.model.specs.calls.Refusals.{first, answer}
 use Rattle.model.specs.calls.RenamingCalls.{long_bounds}
 use Rattle.model.specs.calls.ParentChildCalls.{three_tables_causes}
 use Rattle.model.proofs.records.Record.{absent_edge, prefix_edge}
@@ -30,16 +30,16 @@ use Rattle.parent_child.specs.Under.{Slot, new_range, long_range_causes, asked_c
 use Rattle.parent_child.proofs.Merged.{parent_passed}
 
 -- cause 6 applies to a slot that there isn't
-pub no_slot : (p e : List ℕ) (i : ℕ) (v : Bool) → length e / 66 ≤ i → Refused NoSuchSlot ≡ decision (asked_causes p e i) v
-no_slot p e i v h = here Refused _ _ _ NoSuchSlot _ (rw (length_edges e, le-ltb i (length e / 66) h)) refl
+pub no_slot : (p e : List ℕ) (i : ℕ) (v : Bool) → length e / 66 ≤ i → Err NoSuchSlot ≡ answer (asked_causes p e i) v
+no_slot p e i v h = here Err _ _ _ NoSuchSlot _ (rw (length_edges e, le-ltb i (length e / 66) h)) refl
 
 -- ---- the slot's records
 
 module _ (p e c : List ℕ) (i : ℕ) (h : first (three_tables_causes p e c) ≡ none) (s : i < length e / 66)
     (a b x : List ℕ) (j : a ≡ record_at p i) (k : b ≡ record_at p (i + 1)) (o : x ≡ record_at e i) (t : EdgeKind) (m : t ≡ edge_kind x) where
   -- and not to this one
-  slot_there : {y : Decided} (v : Bool) → y ≡ decision (long_range_causes (slot_bounds (elements p) (edges e) i)) v → y ≡ decision (asked_causes p e i) v
-  slot_there v f = later Refused _ _ _ NoSuchSlot _ (rw (length_edges e, lt-ltb i (length e / 66) s)) f
+  slot_there : {y : Result Bool Refusal} (v : Bool) → y ≡ answer (long_range_causes (slot_bounds (elements p) (edges e) i)) v → y ≡ answer (asked_causes p e i) v
+  slot_there v f = later Err _ _ _ NoSuchSlot _ (rw (length_edges e, lt-ltb i (length e / 66) s)) f
 
   -- its pivots and its edge are those of the records
   left_is : pivot_at (elements p) i ≡ key (key_bytes a)
@@ -71,9 +71,9 @@ module _ (p e c : List ℕ) (i : ℕ) (h : first (three_tables_causes p e c) ≡
         rw (own, element_at p i (omega arith), right_is, j)
 
     -- so what the child holds of it is the answer
-    pub own_told : (y : Decided) → y ≡ yes_or_no (ContainsRange (elements c) (element a) (element b))
-        → y ≡ decision (asked_causes p e i) (ParentKeysInChildRange (elements p) (edges e) (elements c) i)
-    own_told y f = rw own_range (slot_there (ContainsRange (elements c) (element a) (element b)) (later Refused _ _ _ TooLong [] own_short (done Refused _ _ f)))
+    pub own_told : (y : Bool) → y ≡ ContainsRange (elements c) (element a) (element b)
+        → Ok y ≡ answer (asked_causes p e i) (ParentKeysInChildRange (elements p) (edges e) (elements c) i)
+    own_told y f = rw own_range (slot_there (ContainsRange (elements c) (element a) (element b)) (later Err _ _ _ TooLong [] own_short (done Err _ _ (ap Ok f))))
 
   -- with one they are those under it
   module _ (n : ℕ) (u : t ≡ kinds.Prefix n) where
@@ -87,9 +87,9 @@ module _ (p e c : List ℕ) (i : ℕ) (h : first (three_tables_causes p e c) ≡
     under_range = rw under
 
     -- so what the child holds of it is the answer
-    pub under_told : (y : Decided)
-        → y ≡ decision (long_range_causes (new_range a b x)) (ContainsRange (elements c) (new_range a b x).left (new_range a b x).right)
-        → y ≡ decision (asked_causes p e i) (ParentKeysInChildRange (elements p) (edges e) (elements c) i)
+    pub under_told : (y : Result Bool Refusal)
+        → y ≡ answer (long_range_causes (new_range a b x)) (ContainsRange (elements c) (new_range a b x).left (new_range a b x).right)
+        → y ≡ answer (asked_causes p e i) (ParentKeysInChildRange (elements p) (edges e) (elements c) i)
     under_told y f = rw under_range (slot_there (ContainsRange (elements c) (new_range a b x).left (new_range a b x).right) (rw under f))
 
     -- and the slot's records are as a change of prefix asks

@@ -8,11 +8,16 @@ ghost use Rattle.model.specs.records.Record.{record_size};
 ghost use Rattle.model.specs.calls.Refusals.{answer};
 ghost use Rattle.model.specs.calls.ParentChildCalls.{three_tables_causes, parent_child_answer};
 
-use model::{Answer, Decided};
+use model::Refusal;
 use slot::ask_slot;
 
 // Causes 1 to 3 of all three tables, then 4 of the parent; else the count of the parent's pivots.
-fn check_tables(parent_pivots: &[u8], parent_edges: &[u8], child_pivots: &[u8]) -> Answer
+#[tactic(auto, using(crate::proofs::Rules::check_tables))]
+fn check_tables(
+    parent_pivots: &[u8],
+    parent_edges: &[u8],
+    child_pivots: &[u8],
+) -> Result<usize, Refusal>
     ensures { result ≡ answer (three_tables_causes parent_pivots.now parent_edges.now child_pivots.now) (length parent_pivots.now / record_size) }
 {
     let parent = table_checks::check_table(parent_pivots, parent_edges, false, false);
@@ -20,33 +25,17 @@ fn check_tables(parent_pivots: &[u8], parent_edges: &[u8], child_pivots: &[u8]) 
     refusals::earlier(parent, child)
 }
 
-// The refusal of the tables' check; else the slot's answer.
-fn ask_checked(
-    checked: Answer,
-    parent_pivots: &[u8],
-    parent_edges: &[u8],
-    child_pivots: &[u8],
-    slot: usize,
-) -> Decided
-    requires { checked ≡ answer (three_tables_causes parent_pivots.now parent_edges.now child_pivots.now) (length parent_pivots.now / record_size) }
-    ensures { result ≡ parent_child_answer parent_pivots.now parent_edges.now child_pivots.now slot }
-{
-    match checked {
-        Answer::Value(_) => ask_slot(parent_pivots, parent_edges, child_pivots, slot),
-        Answer::Refused(r) => Decided::Refused(r),
-    }
-}
-
 // ParentKeysInChildRange: whether the child's table holds the range of the parent's slot, translated by the slot's edge.
 // Refuses 1, 2, 3, 4, 6 and 8.
+#[tactic(auto, using(crate::proofs::Rules::parent_keys_in_child_range))]
 pub fn parent_keys_in_child_range(
     parent_pivots: &[u8],
     parent_edges: &[u8],
     child_pivots: &[u8],
     slot: usize,
-) -> Decided
+) -> Result<bool, Refusal>
     ensures { result ≡ parent_child_answer parent_pivots.now parent_edges.now child_pivots.now slot }
 {
-    let checked = check_tables(parent_pivots, parent_edges, child_pivots);
-    ask_checked(checked, parent_pivots, parent_edges, child_pivots, slot)
+    check_tables(parent_pivots, parent_edges, child_pivots)?;
+    ask_slot(parent_pivots, parent_edges, child_pivots, slot)
 }

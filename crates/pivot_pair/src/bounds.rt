@@ -14,16 +14,15 @@ ghost use Rattle.pivot_pair.specs.Range.{has_prefix, Prefixed};
 use model::{MAX_LEN, RECORD_SIZE};
 
 // Whether what a record stands for is a key that begins with the prefix.
+#[tactic(auto, using(crate::proofs::Rules::has_prefix))]
 pub(crate) fn has_prefix(rec: &[u8], prefix: &[u8]) -> bool
     ensures { result ≡ has_prefix prefix.now (element rec.now) }
 {
-    if records::is_max(rec) {
-        return false;
-    }
-    scan::is_prefix(prefix, records::key_bytes(rec))
+    !records::is_max(rec) && scan::is_prefix(prefix, records::key_bytes(rec))
 }
 
 // Whether the key with its prefix changed passes 64 bytes.
+#[tactic(auto, using(crate::proofs::Rules::changed_long))]
 fn changed_long(k: &[u8], prefix: &[u8], new_prefix: &[u8]) -> bool
     requires { (IsPrefix prefix.now k.now ≡ true) × (length k.now ≤ max_len) × (length new_prefix.now ≤ max_len) }
     ensures { result ≡ too_long (change_prefix prefix.now new_prefix.now k.now) }
@@ -32,6 +31,7 @@ fn changed_long(k: &[u8], prefix: &[u8], new_prefix: &[u8]) -> bool
 }
 
 // Cause 8 of either bound. The caller says whether the right one has the prefix; else its new bound is never too long.
+#[tactic(auto, using(crate::proofs::Rules::too_long))]
 pub(crate) fn too_long(
     left: &[u8],
     right: &[u8],
@@ -42,16 +42,12 @@ pub(crate) fn too_long(
     requires { (Prefixed left.now right.now prefix.now new_prefix.now) × (goes_on ≡ has_prefix prefix.now (element right.now)) }
     ensures { result ≡ long_bounds (new_bounds left.now right.now prefix.now new_prefix.now) }
 {
-    if changed_long(left, prefix, new_prefix) {
-        return true;
-    }
-    if goes_on {
-        return changed_long(records::key_bytes(right), prefix, new_prefix);
-    }
-    false
+    changed_long(left, prefix, new_prefix)
+        || goes_on && changed_long(records::key_bytes(right), prefix, new_prefix)
 }
 
 // Writes the record of the key with its prefix changed to the head of dest.
+#[tactic(auto, using(crate::proofs::Rules::put_changed))]
 fn put_changed(k: &[u8], prefix: &[u8], new_prefix: &[u8], dest: &mut [u8])
     requires { (length prefix.now ≤ length k.now) × (length new_prefix.now + (length k.now - length prefix.now) ≤ max_len) × (record_size ≤ length dest.old) }
     ensures { dest.new ≡ into (encode (key (change_prefix prefix.now new_prefix.now k.now))) dest.old }
@@ -64,11 +60,12 @@ fn put_changed(k: &[u8], prefix: &[u8], new_prefix: &[u8], dest: &mut [u8])
 fn put_upper(new_prefix: &[u8], dest: &mut [u8])
     ensures { dest.new ≡ uncommon_prefix_leaves new_prefix.now dest.old }
 {
-    upper_bound::shortest_uncommon_prefix(new_prefix, dest);
+    let _ = upper_bound::shortest_uncommon_prefix(new_prefix, dest);
 }
 
 // Writes the record of the new right bound to the head of dest: the right one with its prefix changed or, where it
 // lacks the prefix, the upper bound of the new prefix.
+#[tactic(auto, using(crate::proofs::Rules::put_right))]
 fn put_right(right: &[u8], prefix: &[u8], new_prefix: &[u8], goes_on: bool, dest: &mut [u8])
     requires { (goes_on ≡ has_prefix prefix.now (element right.now)) × (length new_prefix.now ≤ max_len) × (short_element (translate_right prefix.now new_prefix.now (element right.now)) ≡ true) × (record_size ≤ length dest.old) }
     ensures { dest.new ≡ into (encode (translate_right prefix.now new_prefix.now (element right.now))) dest.old }
@@ -81,6 +78,7 @@ fn put_right(right: &[u8], prefix: &[u8], new_prefix: &[u8], goes_on: bool, dest
 }
 
 // Writes the records of both bounds to the head of dest.
+#[tactic(auto, using(crate::proofs::Rules::put_bounds))]
 pub(crate) fn put_bounds(
     left: &[u8],
     right: &[u8],

@@ -9,13 +9,15 @@ ghost use Rattle.model.specs.tables.Tables.{WFPivots};
 ghost use Rattle.model.specs.calls.Refusals.{answer};
 ghost use Rattle.model.specs.calls.TableCalls.{pivot_causes, table_causes};
 
-use model::{Answer, MAX_LEN, RECORD_SIZE};
+use model::{MAX_LEN, RECORD_SIZE, Refusal};
 
 // How many pivots are not above the key or, where strict, below it. They stand first, so the place is found by halving.
+#[tactic(auto, using(crate::proofs::Rules::place))]
 fn place(pivots: &[u8], k: &[u8], strict: bool) -> usize
     requires { WFPivots (elements pivots.now) ≡ true }
     ensures { result ≡ last_place (passes strict (key k.now)) (elements pivots.now) }
 {
+    // By hand: `partition_point` wants a slice of elements, and the records are 66-byte parts of one slice of bytes.
     let mut low = 0;
     let mut high = pivots.len() / RECORD_SIZE;
     while low < high {
@@ -30,21 +32,19 @@ fn place(pivots: &[u8], k: &[u8], strict: bool) -> usize
 }
 
 // Causes 1 to 3 of pivots and a key; else how many pivots are not above the key or, where strict, below it.
-pub fn place_in_pivots(pivots: &[u8], k: &[u8], strict: bool) -> Answer
+#[tactic(auto, using(crate::proofs::Rules::place_in_pivots))]
+pub fn place_in_pivots(pivots: &[u8], k: &[u8], strict: bool) -> Result<usize, Refusal>
     ensures { result ≡ answer (pivot_causes false (too_long k.now) pivots.now) (last_place (passes strict (key k.now)) (elements pivots.now)) }
 {
-    match pivot_checks::check_pivots(pivots, false, MAX_LEN < k.len()) {
-        Answer::Value(_) => Answer::Value(place(pivots, k, strict)),
-        Answer::Refused(r) => Answer::Refused(r),
-    }
+    pivot_checks::check_pivots(pivots, false, MAX_LEN < k.len())?;
+    Ok(place(pivots, k, strict))
 }
 
 // The same of a table with its edges, causes 1 to 4.
-pub fn place_in_table(pivots: &[u8], edges: &[u8], k: &[u8], strict: bool) -> Answer
+#[tactic(auto, using(crate::proofs::Rules::place_in_table))]
+pub fn place_in_table(pivots: &[u8], edges: &[u8], k: &[u8], strict: bool) -> Result<usize, Refusal>
     ensures { result ≡ answer (table_causes false (too_long k.now) pivots.now edges.now) (last_place (passes strict (key k.now)) (elements pivots.now)) }
 {
-    match table_checks::check_table(pivots, edges, false, MAX_LEN < k.len()) {
-        Answer::Value(_) => Answer::Value(place(pivots, k, strict)),
-        Answer::Refused(r) => Answer::Refused(r),
-    }
+    table_checks::check_table(pivots, edges, false, MAX_LEN < k.len())?;
+    Ok(place(pivots, k, strict))
 }

@@ -8,16 +8,17 @@ ghost use Rattle.model.specs.records.Record.{element};
 ghost use Rattle.model.specs.ranges.RangePrefix.{lcp, PivotLcp};
 ghost use Rattle.model.specs.calls.KeyCalls.{pivot_lcp_answer};
 
-use model::{Answer, MAX_LEN, RECORD_SIZE, Refusal};
+use model::{MAX_LEN, RECORD_SIZE, Refusal};
 
 // Whether y is x plus 1.
 fn is_next(x: u8, y: u8) -> bool
     ensures { result ≡ eqb (x + 1) y }
 {
-    x as u16 + 1 == y as u16
+    u16::from(x) + 1 == u16::from(y)
 }
 
 // lcp: the length of the prefix of the range from one key up to another.
+#[tactic(auto, using(crate::proofs::Rules::key_range_prefix))]
 pub fn key_range_prefix(left: &[u8], right: &[u8]) -> usize
     ensures value { result ≡ length (lcp left.now right.now) }
     ensures upper_bound { result ≤ length left.now }
@@ -27,16 +28,14 @@ pub fn key_range_prefix(left: &[u8], right: &[u8]) -> usize
         return n;
     }
     let m = n + 1;
-    if right.len() != m {
-        return n;
-    }
-    if !is_next(left[n], right[n]) {
+    if right.len() != m || !is_next(left[n], right[n]) {
         return n;
     }
     m + byte_scans::ff_run(&left[m..])
 }
 
 // PivotLcp up to what a record stands for, whatever the record's bytes after the key.
+#[tactic(auto, using(crate::proofs::Rules::range_prefix_len))]
 pub fn range_prefix_len(left: &[u8], right: &[u8]) -> usize
     ensures value { result ≡ length (PivotLcp (key left.now) (element right.now)) }
     ensures upper_bound { result ≤ length left.now }
@@ -48,26 +47,18 @@ pub fn range_prefix_len(left: &[u8], right: &[u8]) -> usize
 }
 
 // Whether the prefix of the range between two keys isn't empty. Their first bytes tell.
-#[tactic(auto, using(crate::proofs::Beyond::next_only))]
+#[tactic(auto, using(crate::proofs::Rules::has_key_prefix, crate::proofs::Beyond::next_only))]
 fn has_key_prefix(left: &[u8], right: &[u8]) -> bool
     ensures { result ≡ not (is_nil (lcp left.now right.now)) }
 {
-    if left.len() == 0 {
+    if left.is_empty() || right.is_empty() {
         return false;
     }
-    if right.len() == 0 {
-        return false;
-    }
-    if left[0] == right[0] {
-        return true;
-    }
-    if right.len() != 1 {
-        return false;
-    }
-    is_next(left[0], right[0])
+    left[0] == right[0] || right.len() == 1 && is_next(left[0], right[0])
 }
 
 // Whether PivotLcp between what two records stand for isn't empty.
+#[tactic(auto, using(crate::proofs::Rules::has_range_prefix))]
 pub fn has_range_prefix(left: &[u8], right: &[u8]) -> bool
     ensures { result ≡ not (is_nil (PivotLcp (element left.now) (element right.now))) }
 {
@@ -82,17 +73,15 @@ pub fn has_range_prefix(left: &[u8], right: &[u8]) -> bool
 }
 
 // PivotLcp: the length of the prefix of the range from a key up to an element. Refuses 1 and 2.
-pub fn pivot_lcp(left: &[u8], right: &[u8]) -> Answer
+#[tactic(auto, using(crate::proofs::Rules::pivot_lcp))]
+pub fn pivot_lcp(left: &[u8], right: &[u8]) -> Result<usize, Refusal>
     ensures { result ≡ pivot_lcp_answer left.now right.now }
 {
     if right.len() != RECORD_SIZE {
-        return Answer::Refused(Refusal::Shape);
+        return Err(Refusal::Shape);
     }
-    if MAX_LEN < left.len() {
-        return Answer::Refused(Refusal::Malformed);
+    if MAX_LEN < left.len() || !records::holds_element(right) {
+        return Err(Refusal::Malformed);
     }
-    if !records::holds_element(right) {
-        return Answer::Refused(Refusal::Malformed);
-    }
-    Answer::Value(range_prefix_len(left, right))
+    Ok(range_prefix_len(left, right))
 }

@@ -7,10 +7,8 @@ use native.Mathlib.Nat.{add-sub_cancel_left}
 use native.Mathlib.Omega.{arith}
 use borrow.Author.Tests.{ne_eqb, le-leb, lt-leb, leb-true, not-true, not-false}
 use lib.Dec.{eqb, leb}
-use lib.ListN.{length, take, drop, get_or, length-drop, drop_of_length-le, get_or-eq_default}
+use lib.ListN.{length, take, drop, length-drop, drop_of_length-le, get_or-eq_default}
 use lib.Seq.{take-nil}
-use mir.Val.{Fits}
-use mir.Syntax.{w64}
 use Rattle.model.specs.declared.Reading.{Reading}
 use Rattle.model.specs.declared.Reading.TheVariants.{Key, Malformed, NoEdge, Max}
 use Rattle.model.specs.declared.EdgeKind.TheVariants.{Prefix, Absent}
@@ -23,10 +21,6 @@ use Rattle.model.proofs.Lists.{take_min}
 use Rattle.model.proofs.records.Records.{length_pieces, piece_at}
 
 -- ---- the length field
-
-pub field_is : (r : List ℕ) (b c v w : ℕ) → b ≡ get_or r 0 0 → c ≡ get_or r 1 0 → v ≡ b → w ≡ c → v * 256 + w ≡ length_field r
-unfolding length_field
-field_is r b c v w p q s t = rw (s, t, p, q)
 
 module _ (n : ℕ) where
   pub way_key : (k : ℕ) → k ≡ n → n < 65 → Key k ≡ field_reading n
@@ -57,26 +51,6 @@ key_short n w e = rw e (go (leb n max_len) refl (eqb n no_edge_mark) (eqb n max_
     go false h true u = omega arith
     go false h false true = omega arith
     go false h false false = omega arith
-
--- ---- where the zeros begin, after a key and in a mark
-
-module _ (w : Reading) where
-  pub key_tail : (n : ℕ) → w ≡ Key n → 2 + n ≡ 2 + key_length w
-  key_tail n e = rw e
-
-  pub malformed_tail : w ≡ Malformed → 2 ≡ 2 + key_length w
-  malformed_tail e = rw e
-
-  pub none_tail : w ≡ NoEdge → 2 ≡ 2 + key_length w
-  none_tail e = rw e
-
-  pub max_tail : w ≡ Max → 2 ≡ 2 + key_length w
-  max_tail e = rw e
-
-  pub tail_fits : (n : ℕ) → key_length w ≤ 64 → w ≡ Key n → Fits w64 (2 + n)
-  tail_fits n h e = let k : n ≤ 64 = rw e at h in record { fits = omega arith }
-
-pub ruleset tails = (key_tail, malformed_tail, none_tail, max_tail, tail_fits)
 
 -- ---- the whole record
 

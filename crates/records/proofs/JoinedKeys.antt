@@ -1,15 +1,15 @@
 -- The record of a key in two parts: a length field and zeros, and then the key's bytes over the zeros; and when it is written.
-use mathlib.Core.Path.{◌≡◌, refl, sym, ap, ◌∙◌}
+use mathlib.Core.Path.{◌≡◌, refl, ap, ◌∙◌}
 use mathlib.Core.List.{List, [], ◌∷◌, ◌++◌, append_assoc}
 use Prim.Native.Nat.{ℕ, ◌+◌, ◌-◌, ◌/◌, ◌%◌, ◌≤◌, ◌<◌}
 use native.Mathlib.Omega.{arith}
 use borrow.Author.Tests.{le-leb, lt-leb}
-use borrow.Author.Fill.{fill_more}
 use borrow.Rule.Slice.PartMut.{put_mid}
 use mir.Syntax.{w8}
 use mir.Val.{Fits}
-use lib.ListN.{length, take, drop, set, length-append, length-replicate, replicate-append-replicate}
-use lib.Seq.{drop_at, drop-append-le}
+use lib.ListN.{length, take, drop, set, length-append, length-replicate}
+use lib.Seq.{length-take-le, drop-append-le}
+use Rattle.std.proofs.lemmas.List.{drop-replicate}
 use Rattle.model.specs.keys.Key.{max_len}
 use Rattle.model.specs.records.Record.{zeros, record_of}
 use Rattle.model.specs.inner.Written.{into, recorded}
@@ -20,23 +20,13 @@ use Rattle.records.specs.Blank.{blank}
 
 -- ---- the length field and zeros
 
--- at first no zero is written
-pub head_start : (d : List ℕ) → d ≡ zeros 0 ++ drop 0 d
-head_start d = refl
-
-module _ (d v : List ℕ) (i : ℕ) (e : v ≡ zeros i ++ drop i d) where
-  -- one zero more
-  pub head_turn : i < 66 → 66 ≤ length d → set v i 0 ≡ zeros (i + 1) ++ drop (i + 1) d
-  head_turn h m = rw e (fill_more i 0 d (omega arith))
-
-  -- over 66 zeros the length is written in the second byte
-  pub head_end : (n : ℕ) → Fits w8 n → i ≤ 66 → 66 ≤ i → 66 ≤ length d → set v 1 n ≡ blank n d
-  unfolding blank over record_of
-  head_end n f h j m =
-      let k : i ≡ 66 = omega arith in
-      let high : n / 256 ≡ 0 = omega (arith, f.fits) in
-      let low : n % 256 ≡ n = omega (arith, f.fits) in
-      rw (le-leb 66 (length d) m, e, k, high, low)
+-- over 66 zeros the length is written in the second byte
+pub head_made : (n : ℕ) (d v : List ℕ) → Fits w8 n → 66 ≤ length d → v ≡ zeros (length (take 66 d)) → set (v ++ drop 66 d) 1 n ≡ blank n d
+unfolding blank over record_of
+head_made n d v f m e =
+    let high : n / 256 ≡ 0 = omega (arith, f.fits) in
+    let low : n % 256 ≡ n = omega (arith, f.fits) in
+    rw (le-leb 66 (length d) m, e, length-take-le 66 d m, high, low)
 
 -- without room nothing is
 pub head_none : (n : ℕ) (d : List ℕ) → length d < 66 → d ≡ blank n d
@@ -45,18 +35,11 @@ head_none n d h = rw (lt-leb 66 (length d) h)
 
 -- ---- the key's bytes over the zeros
 
--- what is left of zeros
-drop_zeros : (m n : ℕ) → m ≤ n → drop m (zeros n) ≡ zeros (n - m)
-drop_zeros m n h =
-    let e : n ≡ m + (n - m) = omega arith in
-    let s : zeros n ≡ zeros m ++ zeros (n - m) = ap zeros e ∙ sym (replicate-append-replicate {A = ℕ} m (n - m) 0) in
-    rw s (drop_at (zeros m) (zeros (n - m)) m (length-replicate {A = ℕ} m 0))
-
 -- what is written over zeros leaves the rest of them
 over_zeros : (n : ℕ) (k t : List ℕ) → length k ≤ n → over k (zeros n ++ t) ≡ (k ++ zeros (n - length k)) ++ t
 unfolding over
 over_zeros n k t h =
-    rw (drop-append-le (length k) (zeros n) t (omega (arith, length-replicate {A = ℕ} n 0)), drop_zeros (length k) n h, append_assoc)
+    rw (drop-append-le (length k) (zeros n) t (omega (arith, length-replicate {A = ℕ} n 0)), drop-replicate, append_assoc)
 
 -- what stands after a record is written
 over_record : (f : ℕ) (k d : List ℕ) → length k ≤ max_len → over (record_of f k) d ≡ f / 256 ∷ f % 256 ∷ ((k ++ zeros (max_len - length k)) ++ drop 66 d)
@@ -110,3 +93,6 @@ module _ (a b d : List ℕ) where
       → v ≡ over (record_of (length (a ++ b)) (a ++ b)) d
   unfolding recorded
   recorded_whole v h j e = rw (le-leb (length (a ++ b)) max_len (omega (arith, length-append a b)), le-leb 66 (length d) j) at e
+
+-- each way out of `put_joined`
+pub ruleset joining = (long_first, long_second, no_room_lem, room)

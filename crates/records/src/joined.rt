@@ -17,15 +17,12 @@ pub fn put_head(n: u8, dest: &mut [u8])
     if dest.len() < RECORD_SIZE {
         return;
     }
-    let mut i = 0;
-    while i < RECORD_SIZE {
-        dest[i] = 0;
-        i += 1;
-    }
+    dest[..RECORD_SIZE].fill(0);
     dest[1] = n;
 }
 
 // The record of the key a followed by b, at the head of dest, which has room for it.
+#[tactic(auto, using(crate::proofs::JoinedKeys::joined_made))]
 fn put_whole(a: &[u8], b: &[u8], dest: &mut [u8])
     requires { (length a.now + length b.now ≤ max_len) × (record_size ≤ length dest.old) }
     ensures { dest.new ≡ over (record_of (length (a.now ++ b.now)) (a.now ++ b.now)) dest.old }
@@ -36,6 +33,7 @@ fn put_whole(a: &[u8], b: &[u8], dest: &mut [u8])
 
 // The record of the key a followed by b, at the head of dest. Nothing is written where they have more than 64 bytes, or
 // where there is no room for a record.
+#[tactic(auto, using(crate::proofs::JoinedKeys::joining))]
 pub fn put_joined(a: &[u8], b: &[u8], dest: &mut [u8])
     ensures { dest.new ≡ recorded (a.now ++ b.now) dest.old }
 {

@@ -4,22 +4,18 @@ ghost use Rattle.model.specs.records.Record.{record_of};
 ghost use Rattle.model.specs.inner.Written.{clipped};
 ghost use Rattle.model.specs.inner.Written.{into};
 
-use model::{MAX_LEN, RECORD_SIZE};
+use copies::copy;
+use model::RECORD_SIZE;
 
 // The record with a given length field and the first 64 bytes of k. It is made in an array, which the
 // compiler knows to be apart from k: a record copied from slice to slice costs a move for each byte.
+#[tactic(auto, using(crate::proofs::Writing::record_made))]
 pub fn record_of(field: u16, k: &[u8]) -> [u8; 66]
     ensures { result ≡ record_of field (clipped k.now) }
 {
-    let n = scan::least(k.len(), MAX_LEN);
-    let mut made = [0u8; 66];
-    made[0] = (field / 256) as u8;
-    made[1] = (field % 256) as u8;
-    let mut i = 0;
-    while i < n {
-        made[2 + i] = k[i];
-        i += 1;
-    }
+    let mut made = [0; RECORD_SIZE];
+    [made[0], made[1]] = field.to_be_bytes();
+    copy(k, &mut made[2..]);
     made
 }
 
@@ -27,12 +23,7 @@ pub fn record_of(field: u16, k: &[u8]) -> [u8; 66]
 pub fn store(made: [u8; 66], dst: &mut [u8])
     ensures { dst.new ≡ into made dst.old }
 {
-    let n = scan::least(RECORD_SIZE, dst.len());
-    let mut i = 0;
-    while i < n {
-        dst[i] = made[i];
-        i += 1;
-    }
+    copy(&made, dst);
 }
 
 // Writes the record with a given length field and the first 64 bytes of k to the head of dst.

@@ -1,4 +1,5 @@
 -- TranslatePivots as a whole: the given end beside the pivots, what is written with it, and what is answered.
+use Rattle.std.specs.Prelude.{Result, Ok, Err}
 use mathlib.Core.Path.{◌≡◌, sym, ◌∙◌}
 use mathlib.Core.Bool.{Bool, true, false, not}
 use mathlib.Core.List.{List, [], ◌∷◌, ◌++◌, append-nil, append_assoc}
@@ -12,8 +13,6 @@ use borrow.Rule.Slice.PartMut.{put_mid}
 use lib.ListN.{length, take, drop, get_or, length-drop, length-append, length-map}
 use Rattle.model.specs.declared.Refusal.{Refusal}
 use Rattle.model.specs.declared.Refusal.TheVariants.{NotBelow, NoRoom}
-use Rattle.model.specs.declared.Answer.{Answer}
-use Rattle.model.specs.declared.Answer.TheVariants as answers
 use Rattle.model.specs.keys.Key.{Bytes, max_len}
 use Rattle.model.specs.keys.Order.{lt}
 use Rattle.model.specs.records.Record.{record_size, length_field, record_of, element, elements, encode, encode_all, joined}
@@ -132,19 +131,19 @@ module _ (v p q n : List ℕ) (h : Given v p q n) where
 
 -- ---- the causes 9 and 10 behind the others
 
-module _ (v p q n d : List ℕ) (z : Answer) (m : ℕ) (e : z ≡ answer (renamed_causes v p q n) m) where
+module _ (v p q n d : List ℕ) (z : Result ℕ Refusal) (m : ℕ) (e : z ≡ answer (renamed_causes v p q n) m) where
   all_causes : pivots_causes v p q n d ≡ renamed_causes v p q n ++ end_causes v p q n d
   all_causes = sym (append_assoc (with_end_causes v p q n) _ (end_causes v p q n d))
 
   -- a refusal of the check decides
-  pub keys_refused : {A : Type 0} (f : Refusal → A) (w x : A) (r : Refusal) → z ≡ answers.Refused r → x ≡ f r → x ≡ outcome f (pivots_causes v p q n d) w
+  pub keys_refused : {A : Type 0} (f : Refusal → A) (w x : A) (r : Refusal) → z ≡ Err r → x ≡ f r → x ≡ outcome f (pivots_causes v p q n d) w
   keys_refused f w x r k y = rw all_causes (handed_on-first (renamed_causes v p q n) m z e f w x (end_causes v p q n d) r k y)
 
   -- where it has none, the end and the destination decide
-  pub keys_passed : {A : Type 0} (f : Refusal → A) (w x : A) (l : ℕ) → z ≡ answers.Value l → x ≡ outcome f (end_causes v p q n d) w → x ≡ outcome f (pivots_causes v p q n d) w
+  pub keys_passed : {A : Type 0} (f : Refusal → A) (w x : A) (l : ℕ) → z ≡ Ok l → x ≡ outcome f (end_causes v p q n d) w → x ≡ outcome f (pivots_causes v p q n d) w
   keys_passed f w x l k y = rw all_causes (call_passed_first (renamed_causes v p q n) m z e f w x (end_causes v p q n d) l k y)
 
-module _ (v p q n : List ℕ) (z : Answer) (m : ℕ) (e : z ≡ answer (renamed_causes v p q n) m) (l : ℕ) (k : z ≡ answers.Value l) where
+module _ (v p q n : List ℕ) (z : Result ℕ Refusal) (m : ℕ) (e : z ≡ answer (renamed_causes v p q n) m) (l : ℕ) (k : z ≡ Ok l) where
   none_applies : first (renamed_causes v p q n) ≡ none
   none_applies = accepted (renamed_causes v p q n) m z e l k
 

@@ -1,2 +1,3 @@
 pub mod NewPivots
 pub mod GivenEnd
+pub mod Rules

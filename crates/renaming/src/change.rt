@@ -11,6 +11,7 @@ use model::RECORD_SIZE;
 use records::put_joined;
 
 // The record of pivot i, not the last, with its prefix changed, at the head of dest.
+#[tactic(auto, using(crate::proofs::Rules::put_pivot))]
 pub(crate) fn put_pivot(pivots: &[u8], prefix: &[u8], new_prefix: &[u8], i: usize, dest: &mut [u8])
     requires { (Changeable pivots.now prefix.now new_prefix.now) × (i + 1 < length pivots.now / record_size) × (record_size ≤ length dest.old) }
     ensures { dest.new ≡ over (encode (TranslateElement prefix.now new_prefix.now (pivot_at (elements pivots.now) i))) dest.old }
@@ -21,15 +22,14 @@ pub(crate) fn put_pivot(pivots: &[u8], prefix: &[u8], new_prefix: &[u8], i: usiz
 }
 
 // The records of all pivots but the last, in turn.
+#[tactic(auto, using(crate::proofs::Rules::write_changed))]
 pub(crate) fn write_changed(pivots: &[u8], prefix: &[u8], new_prefix: &[u8], dest: &mut [u8])
     requires { (Changeable pivots.now prefix.now new_prefix.now) × (length pivots.now ≤ length dest.old) }
     ensures { dest.new ≡ over (encode_all (changed_pivots pivots.now prefix.now new_prefix.now)) dest.old }
 {
     let last = pivots.len() / RECORD_SIZE - 1;
-    let mut i = 0;
-    while i < last {
+    for i in 0..last {
         let at = i * RECORD_SIZE;
         put_pivot(pivots, prefix, new_prefix, i, &mut dest[at..]);
-        i += 1;
     }
 }

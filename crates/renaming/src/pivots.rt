@@ -9,9 +9,10 @@ ghost use Rattle.renaming.specs.Change.{end_causes, Changeable};
 
 use crate::change::{put_pivot, write_changed};
 use changed_pivots::check_changed;
-use model::{Answer, RECORD_SIZE, Refusal};
+use model::{RECORD_SIZE, Refusal};
 
 // Whether the last translated key is below the end.
+#[tactic(auto, using(crate::proofs::Rules::ends_above))]
 fn ends_above(pivots: &[u8], prefix: &[u8], new_prefix: &[u8], end: &[u8]) -> bool
     requires { Changeable pivots.now prefix.now new_prefix.now }
     ensures { result ≡ lt (last_translated pivots.now prefix.now new_prefix.now) (element end.now) }
@@ -23,6 +24,7 @@ fn ends_above(pivots: &[u8], prefix: &[u8], new_prefix: &[u8], end: &[u8]) -> bo
 }
 
 // The records of the new pivots, the end's as the last.
+#[tactic(auto, using(crate::proofs::Rules::write_pivots))]
 fn write_pivots(pivots: &[u8], prefix: &[u8], new_prefix: &[u8], end: &[u8], dest: &mut [u8])
     requires { (Given pivots.now prefix.now new_prefix.now end.now) × (Changeable pivots.now prefix.now new_prefix.now) × (length pivots.now ≤ length dest.old) }
     ensures { dest.new ≡ over (encode_all (new_pivots pivots.now prefix.now new_prefix.now end.now)) dest.old }
@@ -33,42 +35,41 @@ fn write_pivots(pivots: &[u8], prefix: &[u8], new_prefix: &[u8], end: &[u8], des
 }
 
 // Causes 9 and 10; else the new pivots at the head of dest.
+#[tactic(auto, using(crate::proofs::Rules::put_pivots))]
 fn put_pivots(
     pivots: &[u8],
     prefix: &[u8],
     new_prefix: &[u8],
     end: &[u8],
     dest: &mut [u8],
-) -> Answer
+) -> Result<usize, Refusal>
     requires { (Given pivots.now prefix.now new_prefix.now end.now) × (Changeable pivots.now prefix.now new_prefix.now) }
     ensures answered { result ≡ answer (end_causes pivots.now prefix.now new_prefix.now end.now dest.old) (length (new_pivots pivots.now prefix.now new_prefix.now end.now)) }
     ensures written { dest.new ≡ leaves (end_causes pivots.now prefix.now new_prefix.now end.now dest.old) (encode_all (new_pivots pivots.now prefix.now new_prefix.now end.now)) dest.old }
 {
     if !ends_above(pivots, prefix, new_prefix, end) {
-        return Answer::Refused(Refusal::NotBelow);
+        return Err(Refusal::NotBelow);
     }
     if dest.len() < pivots.len() {
-        return Answer::Refused(Refusal::NoRoom);
+        return Err(Refusal::NoRoom);
     }
     write_pivots(pivots, prefix, new_prefix, end, dest);
-    Answer::Value(pivots.len() / RECORD_SIZE)
+    Ok(pivots.len() / RECORD_SIZE)
 }
 
 // TranslatePivots: the pivots with prefix changed to new_prefix in each but the last, and the given end in its place,
 // at the head of dest. Answers the number of pivots written. Refuses 1, 2, 3, 7, 8, 9 and 10.
+#[tactic(auto, using(crate::proofs::Rules::translate_pivots))]
 pub fn translate_pivots(
     pivots: &[u8],
     prefix: &[u8],
     new_prefix: &[u8],
     end: &[u8],
     dest: &mut [u8],
-) -> Answer
+) -> Result<usize, Refusal>
     ensures answered { result ≡ pivots_answer pivots.now prefix.now new_prefix.now end.now dest.old }
     ensures written { dest.new ≡ pivots_leaves pivots.now prefix.now new_prefix.now end.now dest.old }
 {
-    let checked = check_changed(pivots, prefix, new_prefix, end);
-    let Answer::Value(_) = checked else {
-        return checked;
-    };
+    check_changed(pivots, prefix, new_prefix, end)?;
     put_pivots(pivots, prefix, new_prefix, end, dest)
 }

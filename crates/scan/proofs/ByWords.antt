@@ -1,13 +1,14 @@
 -- Bytes that make equal words are equal, and those of a zero word are zero.
-use mathlib.Core.Path.{◌≡◌, refl, sym, ◌∙◌}
+use mathlib.Core.Path.{◌≡◌, sym, ◌∙◌}
 use mathlib.Core.List.{List, [], ◌∷◌}
-use Prim.Native.Nat.{ℕ, zero, suc, ◌+◌, ◌*◌, ◌-◌, ◌≤◌, ◌<◌}
+use Prim.Native.Nat.{ℕ, zero, suc, ◌+◌, ◌*◌, ◌-◌, ◌/◌, ◌≤◌, ◌<◌}
 use native.Mathlib.Omega.{arith}
-use mir.Syntax.{w8}
+use mir.Syntax.{w8, w32, w64}
 use mir.Val.{Fits}
 use borrow.Author.Tests.{eq-eqb}
-use lib.ListN.{length, drop, get_or, length-drop}
-use lib.Seq.{drop-drop, get_or-drop}
+use lib.ListN.{length, take, drop, get_or, length-drop}
+use lib.Seq.{drop-drop}
+use Rattle.std.specs.Int.{from_le_bytes}
 use Rattle.model.specs.keys.Key.{Bytes, common_run}
 use Rattle.model.proofs.keys.Key.{bytes_of, bytes_drop}
 use Rattle.scan.specs.Word.{word_of}
@@ -42,34 +43,55 @@ word_agrees m a b i n x y u v e l p q s t =
     (bytes_drop i a (bytes_of a s)) (bytes_drop i b (bytes_of b t)) (sym u ∙ e ∙ v) in
     omega (arith, rw (drop-drop, drop-drop) at w)
 
--- ---- the word of four and of eight bytes
+-- the words of a and b before the place i agree, of those that n bytes have whole
+pub record Alike (a b : List ℕ) (n i : ℕ) : Type 0 where
+  pub inside : i ≤ n / 8 * 8
+  pub words : i ≡ i / 8 * 8
+  pub same : i + length (common_run (drop i a) (drop i b)) ≡ length (common_run a b)
 
--- one byte and the word of those after it
-pub word_step : (n : ℕ) (s : List ℕ) (i j : ℕ) → j ≡ i + 1 → word_of (suc n) (drop i s) ≡ get_or s i 0 + 256 * word_of n (drop j s)
+-- at the start there are none
+pub alike_start : (a b : List ℕ) (n : ℕ) → Alike a b n 0
+alike_start a b n = record { inside = omega arith; words = omega arith; same = omega arith }
+
+module _ (a b : List ℕ) (n i : ℕ) (c : Alike a b n i) where
+  -- one that agrees is passed
+  pub alike_on : (x y : ℕ) → x ≡ word_of 8 (drop i a) → y ≡ word_of 8 (drop i b) → x ≡ y → i < n / 8 * 8
+      → n ≤ length a → n ≤ length b → ((j : ℕ) → Fits w8 (get_or a j 0)) → ((j : ℕ) → Fits w8 (get_or b j 0)) → Alike a b n (i + 8)
+  alike_on x y u v e l p q s t =
+      record { inside = omega (arith, c.words); words = omega (arith, c.words); same = word_agrees 8 a b i n x y u v e (omega (arith, c.words)) p q s t ∙ c.same }
+
+  -- and after the last of them they agree that far
+  pub alike_end : n / 8 * 8 ≤ i → n / 8 * 8 + length (common_run (drop (n / 8 * 8) a) (drop (n / 8 * 8) b)) ≡ length (common_run a b)
+  alike_end l = let e : i ≡ n / 8 * 8 = omega (arith, c.inside) in rw e at c.same
+
+-- ---- the word of four and of eight bytes, as the library reads it
+
+half_first : (l : List ℕ) → 4 ≤ length l → from_le_bytes w32 (take 4 l) ≡ word_of 4 l
 unfolding word_of
-word_step n s i j e =
-    let z : i + 0 ≡ i = omega arith in
-    rw (get_or-drop, z, drop-drop, e)
+half_first [] p = absurd (omega arith)
+half_first (a ∷ []) p = absurd (omega arith)
+half_first (a ∷ b ∷ []) p = absurd (omega arith)
+half_first (a ∷ b ∷ c ∷ []) p = absurd (omega arith)
+half_first (a ∷ b ∷ c ∷ d ∷ l) p = omega arith
 
-pub word_none : (l : List ℕ) → word_of 0 l ≡ 0
+word_first : (l : List ℕ) → 8 ≤ length l → from_le_bytes w64 (take 8 l) ≡ word_of 8 l
 unfolding word_of
-word_none l = refl
+word_first [] p = absurd (omega arith)
+word_first (a ∷ []) p = absurd (omega arith)
+word_first (a ∷ b ∷ []) p = absurd (omega arith)
+word_first (a ∷ b ∷ c ∷ []) p = absurd (omega arith)
+word_first (a ∷ b ∷ c ∷ d ∷ []) p = absurd (omega arith)
+word_first (a ∷ b ∷ c ∷ d ∷ e ∷ []) p = absurd (omega arith)
+word_first (a ∷ b ∷ c ∷ d ∷ e ∷ f ∷ []) p = absurd (omega arith)
+word_first (a ∷ b ∷ c ∷ d ∷ e ∷ f ∷ g ∷ []) p = absurd (omega arith)
+word_first (a ∷ b ∷ c ∷ d ∷ e ∷ f ∷ g ∷ h ∷ l) p = omega arith
 
-pub half_is : (s : List ℕ) (i : ℕ) → word_of 4 (drop i s) ≡ get_or s i 0 + get_or s (i + 1) 0 * 256 + get_or s (i + 2) 0 * 65536 + get_or s (i + 3) 0 * 16777216
-half_is s i =
-    let a = word_step 3 s i (i + 1) refl in
-    let b = word_step 2 s (i + 1) (i + 2) (omega arith) in
-    let c = word_step 1 s (i + 2) (i + 3) (omega arith) in
-    let d = word_step 0 s (i + 3) (i + 4) (omega arith) in
-    let e = word_none (drop (i + 4) s) in
-    omega arith
+pub half_is : (s : List ℕ) (i : ℕ) (y : List ℕ) → i + 4 ≤ length s → y ≡ take (i + 4 - i) (drop i s) → from_le_bytes w32 y ≡ word_of 4 (drop i s)
+half_is s i y h e =
+    let n : i + 4 - i ≡ 4 = omega arith in
+    rw (e, n) (half_first (drop i s) (omega (arith, length-drop i s)))
 
--- eight bytes are two halves
-pub word_is : (s : List ℕ) (i x y : ℕ) → x ≡ word_of 4 (drop i s) → y ≡ word_of 4 (drop (i + 4) s) → x + y * 4294967296 ≡ word_of 8 (drop i s)
-word_is s i x y u v =
-    let a = word_step 7 s i (i + 1) refl in
-    let b = word_step 6 s (i + 1) (i + 2) (omega arith) in
-    let c = word_step 5 s (i + 2) (i + 3) (omega arith) in
-    let d = word_step 4 s (i + 3) (i + 4) (omega arith) in
-    let e = half_is s i in
-    omega arith
+pub word_is : (s : List ℕ) (i : ℕ) (y : List ℕ) → i + 8 ≤ length s → y ≡ take (i + 8 - i) (drop i s) → from_le_bytes w64 y ≡ word_of 8 (drop i s)
+word_is s i y h e =
+    let n : i + 8 - i ≡ 8 = omega arith in
+    rw (e, n) (word_first (drop i s) (omega (arith, length-drop i s)))

@@ -1,4 +1,5 @@
 -- The edge of a range whose prefix grows, made as a record.
+use Rattle.std.specs.Prelude.{Result, Ok, Err}
 use mathlib.Core.Path.{◌≡◌, refl, sym, ap, ◌∙◌}
 use mathlib.Core.Bool.{Bool, true, false, cond, not}
 use mathlib.Core.List.{List, []}
@@ -11,8 +12,6 @@ use borrow.Author.Tests.{le-leb, lt-leb, le-ltb, lt-ltb, leb-true, not-false}
 use lib.ListN.{length, take}
 use Rattle.model.specs.declared.Refusal.{Refusal}
 use Rattle.model.specs.declared.Refusal.TheVariants.{TooLong}
-use Rattle.model.specs.declared.Answer.{Answer}
-use Rattle.model.specs.declared.Answer.TheVariants as answers
 use Rattle.model.specs.declared.EdgeKind.{EdgeKind}
 use Rattle.model.specs.declared.EdgeKind.TheVariants as kinds
 use Rattle.model.specs.keys.Key.{Key, max_len, IsPrefix, change_prefix}
@@ -30,13 +29,13 @@ use Rattle.model.proofs.records.Record.{length-encode_edge, absent_edge, prefix_
 use Rattle.slot_edges.specs.Slot.{grown_causes, grown_record, grown_answer, grown_leaves, long_edge_causes}
 
 -- a cut edge that isn't refused is short
-pub edge_taken : (x : Edge) (z : Answer) → z ≡ answer (long_edge_causes x) 1 → (m : ℕ) → z ≡ answers.Value m → short_edge x ≡ true
+pub edge_taken : (x : Edge) (z : Result ℕ Refusal) → z ≡ answer (long_edge_causes x) 1 → (m : ℕ) → z ≡ Ok m → short_edge x ≡ true
 edge_taken x z q m r = not-false _ (none_here _ TooLong [] (accepted (long_edge_causes x) 1 z q m r))
 
 -- ---- a record that is no prefix is copied
 
 module _ (r p q : List ℕ) (t : EdgeKind) (e : t ≡ edge_kind r) (g : t ≡ kinds.Absent) where
-  pub absent_answer : answers.Value 1 ≡ grown_answer p q r
+  pub absent_answer : Ok 1 ≡ grown_answer p q r
   unfolding grown_answer outcome
   absent_answer = rw (absent_edge r t e g)
 
@@ -50,11 +49,11 @@ module _ (r p q : List ℕ) (t : EdgeKind) (e : t ≡ edge_kind r) (g : t ≡ ki
 room_counts : (p q b room : List ℕ) → length room ≡ 64 → change_prefix_causes q p b room ≡ change_prefix_causes q p b (zeros max_len)
 room_counts p q b room x = rw x
 
-module _ (a : Answer) (r p q b room w : List ℕ) (h : a ≡ change_prefix_answer q p b room) (k : w ≡ change_prefix_leaves q p b room)
+module _ (a : Result ℕ Refusal) (r p q b room w : List ℕ) (h : a ≡ change_prefix_answer q p b room) (k : w ≡ change_prefix_leaves q p b room)
     (u : b ≡ key_bytes r) (x : length room ≡ 64) where
   -- ---- what is known of it whatever the record
 
-  module _ (n : ℕ) (f : a ≡ answers.Value n) where
+  module _ (n : ℕ) (f : a ≡ Ok n) where
     counts : n ≡ length (change_prefix p b q)
     counts = change_counts q p b room a h n f
 
@@ -82,19 +81,19 @@ module _ (a : Answer) (r p q b room w : List ℕ) (h : a ≡ change_prefix_answe
     caused : a ≡ answer (grown_causes p q (edge_of r)) (length (change_prefix p b q))
     caused = h ∙ rw (edge_is, room_counts p q b room x)
 
-    module _ (y : Refusal) (f : a ≡ answers.Refused y) where
-      pub long_answer : a ≡ grown_answer p q r
+    module _ (y : Refusal) (f : a ≡ Err y) where
+      pub long_answer : (z : Result ℕ Refusal) → z ≡ Err y → z ≡ grown_answer p q r
       unfolding grown_answer
-      long_answer = handed_on _ _ a caused answers.Refused (answers.Value 1) a y f f
+      long_answer z o = handed_on _ _ a caused Err (Ok 1) z y f o
 
       pub long_kept_lem : (made : List ℕ) → made ≡ grown_leaves p q r made
       unfolding grown_leaves
       long_kept_lem made = handed_on _ _ a caused (λ (_ : Refusal). made) _ made y f refl
 
-    module _ (n : ℕ) (f : a ≡ answers.Value n) where
-      pub made_answer : answers.Value 1 ≡ grown_answer p q r
+    module _ (n : ℕ) (f : a ≡ Ok n) where
+      pub made_answer : Ok 1 ≡ grown_answer p q r
       unfolding grown_answer
-      made_answer = call_passed _ _ a caused answers.Refused (answers.Value 1) (answers.Value 1) n f refl
+      made_answer = call_passed _ _ a caused Err (Ok 1) (Ok 1) n f refl
 
       written : record_of n (clipped (take n w)) ≡ grown_record p q r (edge_of r)
       unfolding encode_edge cut_edge
@@ -140,7 +139,7 @@ same_record p q r no_edge h = sym h
 module _ (p q r : List ℕ) (g : IsPrefix p q ≡ true) (l : length q ≤ max_len) (s : short_edge (edge_of r) ≡ true) where
   pub grown_answer_lem : grown_answer p q r ≡ answer (long_edge_causes (cut_edge p q (edge_of r))) 1
   unfolding grown_answer
-  grown_answer_lem = grown_long p q g l answers.Refused (answers.Value 1) (edge_of r) s
+  grown_answer_lem = grown_long p q g l Err (Ok 1) (edge_of r) s
 
   pub grown_left : (made : List ℕ) → encode_edge (edge_of r) ≡ r → record_size ≤ length made
       → grown_leaves p q r made ≡ leaves (long_edge_causes (cut_edge p q (edge_of r))) (encode_edge (cut_edge p q (edge_of r))) made

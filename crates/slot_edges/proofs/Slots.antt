@@ -1,4 +1,6 @@
 -- The edge of the cut slot, by the records that stand there, and by the table.
+use Rattle.std.specs.Prelude.{Result}
+use Rattle.model.specs.declared.Refusal.{Refusal}
 use mathlib.Core.Path.{◌≡◌, ◌∙◌}
 use mathlib.Core.Bool.{Bool, true, false}
 use mathlib.Core.List.{List}
@@ -8,7 +10,6 @@ use native.Mathlib.Omega.{arith}
 use mir.Syntax.{w8}
 use mir.Val.{Fits}
 use lib.ListN.{length, take, drop, get_or}
-use Rattle.model.specs.declared.Answer.{Answer}
 use Rattle.model.specs.keys.Key.{Bytes, IsPrefix, max_len, too_long}
 use Rattle.model.specs.keys.Order.{key}
 use Rattle.model.specs.records.Record.{record_size, reading, edge_reading, key_bytes, element, elements, records, edges, edge_of, encode_edge}
@@ -47,7 +48,7 @@ module _ (left : Bool) (p e k : List ℕ) (c : ℕ) (r from u er : List ℕ) (g 
 
   -- the prefix of what is left of the slot
   module _ (new : List ℕ) (y : new ≡ cut_prefix left p k c) where
-    answer_is : (z : Answer) → z ≡ grown_answer (take n from) new er → z ≡ slot_edge_answer left p e k c
+    answer_is : (z : Result ℕ Refusal) → z ≡ grown_answer (take n from) new er → z ≡ slot_edge_answer left p e k c
     unfolding slot_edge_answer
     answer_is z q = q ∙ rw (old_is, y, d)
 
@@ -62,7 +63,7 @@ module _ (left : Bool) (p e k : List ℕ) (c : ℕ) (r from u er : List ℕ) (g 
     unfolding cut_prefix
     on_left = rw v (key_part m from k y ∙ rw (g, a))
 
-    pub left_answer : (z : Answer) → z ≡ grown_answer (take n from) (take m from) er → z ≡ slot_edge_answer left p e k c
+    pub left_answer : (z : Result ℕ Refusal) → z ≡ grown_answer (take n from) (take m from) er → z ≡ slot_edge_answer left p e k c
     left_answer = answer_is (take m from) on_left
 
     pub left_made : (w made : List ℕ) → w ≡ grown_leaves (take n from) (take m from) er made → w ≡ slot_edge_leaves left p e k c made
@@ -75,7 +76,7 @@ module _ (left : Bool) (p e k : List ℕ) (c : ℕ) (r from u er : List ℕ) (g 
     unfolding cut_prefix
     on_right = rw v (prefix_part m k u y ∙ rw b)
 
-    pub right_answer : (z : Answer) → z ≡ grown_answer (take n from) (take m k) er → z ≡ slot_edge_answer left p e k c
+    pub right_answer : (z : Result ℕ Refusal) → z ≡ grown_answer (take n from) (take m k) er → z ≡ slot_edge_answer left p e k c
     right_answer = answer_is (take m k) on_right
 
     pub right_made : (w made : List ℕ) → w ≡ grown_leaves (take n from) (take m k) er made → w ≡ slot_edge_leaves left p e k c made
@@ -139,7 +140,7 @@ module _ (left : Bool) (p e k : List ℕ) (c : ℕ) (o : first (edge_slot_causes
 
 -- what making it answers and leaves, in the table's terms
 module _ (left : Bool) (p e k : List ℕ) (c : ℕ) where
-  pub slot_edge_answer_lem : (z : Answer) → z ≡ slot_edge_answer left p e k c → first (edge_slot_causes p e k (inside left (elements p) k)) ≡ none
+  pub slot_edge_answer_lem : (z : Result ℕ Refusal) → z ≡ slot_edge_answer left p e k c → first (edge_slot_causes p e k (inside left (elements p) k)) ≡ none
       → c ≡ cutoff left (elements p) k → ((i : ℕ) → Fits w8 (get_or p i 0)) → ((i : ℕ) → Fits w8 (get_or k i 0))
       → z ≡ answer (long_edge_causes (edge_cut left p e k)) 1
   unfolding slot_edge_answer

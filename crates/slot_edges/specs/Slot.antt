@@ -1,9 +1,8 @@
 -- The slot that a cut at k finds in pivots p and edges e, and its cut edge: by the records at a place, and by the table.
-use Rattle.std.specs.Prelude.{◌≡◌, Bool, true, false, not, List, [], ◌∷◌, ℕ, ◌+◌}
+use Rattle.std.specs.Prelude.{◌≡◌, Bool, true, false, not, List, [], ◌∷◌, ℕ, ◌+◌, Result}
 use Rattle.std.proofs.Math.Option.{none}
 use Rattle.model.specs.declared.Refusal.{Refusal}
 use Rattle.model.specs.declared.Refusal.TheVariants.{TooLong}
-use Rattle.model.specs.declared.Answer.{Answer}
 use Rattle.model.specs.keys.Key.{Key, max_len}
 use Rattle.model.specs.keys.Order.{key}
 use Rattle.model.specs.records.Record.{Edge, edge, no_edge, key_bytes, element, edge_of, zeros, encode_edge, elements, edges}
@@ -31,7 +30,7 @@ grown_record p q r (edge b) = encode_edge (cut_edge p q (edge b))
 grown_record p q r no_edge = r
 
 -- what making it answers
-unfoldable pub grown_answer : Key → Key → List ℕ → Answer
+unfoldable pub grown_answer : Key → Key → List ℕ → Result ℕ Refusal
 grown_answer p q r = answer (grown_causes p q (edge_of r)) 1
 
 -- what making it leaves in d: the record as far as there is room, and d as it was where a cause applies
@@ -50,7 +49,7 @@ cut_prefix true p k c = PivotLcp (key (key_bytes (record_at p c))) (key k)
 cut_prefix false p k c = PivotLcp (key k) (element (record_at p (c + 1)))
 
 -- what making its cut edge answers
-unfoldable pub slot_edge_answer : Bool → List ℕ → List ℕ → Key → ℕ → Answer
+unfoldable pub slot_edge_answer : Bool → List ℕ → List ℕ → Key → ℕ → Result ℕ Refusal
 slot_edge_answer left p e k c = grown_answer (slot_prefix p c) (cut_prefix left p k c) (record_at e c)
 
 -- what making its cut edge leaves in d

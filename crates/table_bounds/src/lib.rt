@@ -6,14 +6,15 @@ ghost use Rattle.model.specs.keys.Order.{key, lt};
 ghost use Rattle.model.specs.records.Record.{record_size, element, elements};
 ghost use Rattle.model.specs.inner.Places.{record_at};
 ghost use Rattle.model.specs.tables.Tables.{WFPivots, PivotInsertable};
-ghost use Rattle.model.specs.calls.Refusals.{decision};
+ghost use Rattle.model.specs.calls.Refusals.{answer};
 ghost use Rattle.model.specs.calls.TableCalls.{key_causes, bounded_key_answer, valid_left_cut_off_key_answer, pivot_insertable_answer};
 ghost use Rattle.model.specs.cuts.Sides.{inside};
 
-use model::{Answer, Decided, MAX_LEN, RECORD_SIZE};
-use table_questions::{last_record, say};
+use model::{MAX_LEN, RECORD_SIZE, Refusal};
+use table_questions::last_record;
 
 // Whether the first pivot passes for the key, and the last does not.
+#[tactic(auto, using(crate::proofs::Rules::within))]
 fn within(pivots: &[u8], k: &[u8], strict: bool) -> bool
     requires { WFPivots (elements pivots.now) ≡ true }
     ensures { result ≡ inside strict (elements pivots.now) k.now }
@@ -24,24 +25,23 @@ fn within(pivots: &[u8], k: &[u8], strict: bool) -> bool
     false
 }
 
-fn ask_within(pivots: &[u8], k: &[u8], strict: bool) -> Decided
-    ensures { result ≡ decision (key_causes pivots.now k.now) (inside strict (elements pivots.now) k.now) }
+#[tactic(auto, using(crate::proofs::Rules::ask_within))]
+fn ask_within(pivots: &[u8], k: &[u8], strict: bool) -> Result<bool, Refusal>
+    ensures { result ≡ answer (key_causes pivots.now k.now) (inside strict (elements pivots.now) k.now) }
 {
-    match table_checks::check_pivots(pivots, false, MAX_LEN < k.len()) {
-        Answer::Value(_) => say(within(pivots, k, strict)),
-        Answer::Refused(r) => Decided::Refused(r),
-    }
+    table_checks::check_pivots(pivots, false, MAX_LEN < k.len())?;
+    Ok(within(pivots, k, strict))
 }
 
 // BoundedKey: whether the key isn't below the first pivot, and below the last. Refuses 1, 2 and 3.
-pub fn bounded_key(pivots: &[u8], key: &[u8]) -> Decided
+pub fn bounded_key(pivots: &[u8], key: &[u8]) -> Result<bool, Refusal>
     ensures { result ≡ bounded_key_answer pivots.now key.now }
 {
     ask_within(pivots, key, false)
 }
 
 // ValidLeftCutOffKey: whether the key is above the first pivot, and not above the last. Refuses 1, 2 and 3.
-pub fn valid_left_cut_off_key(pivots: &[u8], key: &[u8]) -> Decided
+pub fn valid_left_cut_off_key(pivots: &[u8], key: &[u8]) -> Result<bool, Refusal>
     ensures { result ≡ valid_left_cut_off_key_answer pivots.now key.now }
 {
     ask_within(pivots, key, true)
@@ -68,6 +68,7 @@ fn precedes(pivots: &[u8], place: usize, k: &[u8]) -> bool
 }
 
 // Whether the key may become a pivot at the place.
+#[tactic(auto, using(crate::proofs::Rules::fits_at))]
 fn fits_at(pivots: &[u8], place: usize, k: &[u8]) -> bool
     requires { WFPivots (elements pivots.now) ≡ true }
     ensures { result ≡ PivotInsertable (elements pivots.now) place k.now }
@@ -82,11 +83,10 @@ fn fits_at(pivots: &[u8], place: usize, k: &[u8]) -> bool
 }
 
 // PivotInsertable: whether the key may become a pivot at the place, which may be any number. Refuses 1, 2 and 3.
-pub fn pivot_insertable(pivots: &[u8], place: usize, key: &[u8]) -> Decided
+#[tactic(auto, using(crate::proofs::Rules::pivot_insertable))]
+pub fn pivot_insertable(pivots: &[u8], place: usize, key: &[u8]) -> Result<bool, Refusal>
     ensures { result ≡ pivot_insertable_answer pivots.now place key.now }
 {
-    match table_checks::check_pivots(pivots, false, MAX_LEN < key.len()) {
-        Answer::Value(_) => say(fits_at(pivots, place, key)),
-        Answer::Refused(r) => Decided::Refused(r),
-    }
+    table_checks::check_pivots(pivots, false, MAX_LEN < key.len())?;
+    Ok(fits_at(pivots, place, key))
 }

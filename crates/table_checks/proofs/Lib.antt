@@ -1,3 +1,4 @@
 pub mod Counts
 pub mod EdgePass
 pub mod Table
+pub mod Rules

@@ -2,7 +2,7 @@
 // has a `requires`.
 #![tactic(auto)]
 
-ghost use Rattle.std.specs.Prelude.{◌≡◌, ◌||◌, ◌+◌, ◌/◌, ◌<◌, length};
+ghost use Rattle.std.specs.Prelude.{◌≡◌, not, ◌||◌, ◌+◌, ◌/◌, ◌<◌, length};
 ghost use Rattle.model.specs.records.Record.{record_size, element, edge_of, records};
 ghost use Rattle.model.specs.inner.Places.{record_at};
 ghost use Rattle.model.specs.ranges.RangePrefix.{PivotLcp};
@@ -10,45 +10,41 @@ ghost use Rattle.model.specs.tables.Tables.{edge_fits};
 ghost use Rattle.model.specs.calls.Refusals.{answer};
 ghost use Rattle.model.specs.calls.TableCalls.{not_edge_count, edges_read, edges_stand, table_causes};
 
-use model::{Answer, EdgeKind, RECORD_SIZE, Refusal};
+use model::{EdgeKind, RECORD_SIZE, Refusal};
 pub use pivot_checks::check_pivots;
 use pivot_checks::not_pivot_count;
 
-fn either(a: bool, b: bool) -> bool
-    ensures { result ≡ (a || b) }
-{
-    if a {
-        return true;
-    }
-    b
-}
-
 // Whether edges aren't one fewer than pivots.
+#[tactic(auto, using(crate::proofs::Rules::not_edge_count))]
 fn not_edge_count(pivots: &[u8], edges: &[u8]) -> bool
     ensures { result ≡ not_edge_count pivots.now edges.now }
 {
-    if pivots.len() < RECORD_SIZE {
-        return true;
-    }
-    pivots.len() - RECORD_SIZE != edges.len()
+    pivots.len() < RECORD_SIZE || pivots.len() - RECORD_SIZE != edges.len()
 }
 
 // Whether each record is an edge's or "no edge".
+#[tactic(auto, using(crate::proofs::Rules::edges_read))]
 fn edges_read(edges: &[u8]) -> bool
     ensures { result ≡ edges_read (records edges.now) }
 {
     let count = edges.len() / RECORD_SIZE;
-    let mut i = 0;
-    while i < count {
+    for i in 0..count {
         if !records::holds_edge(records::record_at(edges, i)) {
             return false;
         }
-        i += 1;
     }
     true
 }
 
+// Cause 2 of the edges or of another argument.
+fn misread(edges: &[u8], wrong: bool) -> bool
+    ensures { result ≡ (wrong || not (edges_read (records edges.now))) }
+{
+    wrong || !edges_read(edges)
+}
+
 // Whether an edge may stand between two pivots: where there is one, the range's prefix isn't empty.
+#[tactic(auto, using(crate::proofs::Rules::edge_fits))]
 fn edge_fits(left: &[u8], right: &[u8], edge: &[u8]) -> bool
     ensures { result ≡ edge_fits (PivotLcp (element left.now) (element right.now)) (edge_of edge.now) }
 {
@@ -69,6 +65,7 @@ fn slot_fits(pivots: &[u8], edges: &[u8], i: usize) -> bool
 }
 
 // WFEdges of what the records stand for.
+#[tactic(auto, using(crate::proofs::Rules::edges_fit))]
 fn edges_fit(pivots: &[u8], edges: &[u8]) -> bool
     ensures { result ≡ edges_stand pivots.now edges.now }
 {
@@ -76,32 +73,27 @@ fn edges_fit(pivots: &[u8], edges: &[u8]) -> bool
     if pivots.len() / RECORD_SIZE != slots + 1 {
         return false;
     }
-    let mut i = 0;
-    while i < slots {
+    for i in 0..slots {
         if !slot_fits(pivots, edges, i) {
             return false;
         }
-        i += 1;
     }
     true
 }
 
 // Causes 1 to 4 of pivots and edges; else the count of pivots. The caller says whether another argument has cause 1, or cause 2.
 // No record is read before the counts are right, so that a refusal with 1 costs the same at any length.
-pub fn check_table(pivots: &[u8], edges: &[u8], shape: bool, wrong: bool) -> Answer
+#[tactic(auto, using(crate::proofs::Rules::check_table))]
+pub fn check_table(pivots: &[u8], edges: &[u8], shape: bool, wrong: bool) -> Result<usize, Refusal>
     ensures { result ≡ answer (table_causes shape wrong pivots.now edges.now) (length pivots.now / record_size) }
 {
-    let odd = either(shape, not_edge_count(pivots, edges));
-    if either(odd, not_pivot_count(pivots)) {
-        return Answer::Refused(Refusal::Shape);
+    if shape || not_edge_count(pivots, edges) || not_pivot_count(pivots) {
+        return Err(Refusal::Shape);
     }
-    let bad = either(wrong, !edges_read(edges));
-    let found = check_pivots(pivots, odd, bad);
-    let Answer::Value(n) = found else {
-        return found;
-    };
+    let bad = misread(edges, wrong);
+    let n = check_pivots(pivots, false, bad)?;
     if !edges_fit(pivots, edges) {
-        return Answer::Refused(Refusal::EmptyPrefix);
+        return Err(Refusal::EmptyPrefix);
     }
-    Answer::Value(n)
+    Ok(n)
 }

@@ -1,4 +1,5 @@
 -- The questions that the first and the last pivot answer.
+use Rattle.std.specs.Prelude.{Result, Ok, Err}
 use mathlib.Core.Path.{◌≡◌, refl}
 use mathlib.Core.Bool.{Bool, true, false, cond, not, ◌||◌, not-not}
 use mathlib.Core.List.{List, [], ◌∷◌}
@@ -9,16 +10,12 @@ use lib.Dec.{eqb}
 use lib.ListN.{length}
 use Rattle.model.specs.declared.Refusal.TheVariants.{NotBelow}
 use Rattle.model.specs.declared.Refusal.{Refusal}
-use Rattle.model.specs.declared.Answer.{Answer}
-use Rattle.model.specs.declared.Answer.TheVariants as answers
-use Rattle.model.specs.declared.Decided.{Decided}
-use Rattle.model.specs.declared.Decided.TheVariants.{Refused}
 use Rattle.model.specs.keys.Key.{Key, too_long}
 use Rattle.model.specs.keys.Order.{Element, key, max, lte, lte_key, lt, passes}
 use Rattle.model.specs.records.Record.{max_mark, length_field, key_bytes, reading, element_reading, element, elements}
 use Rattle.model.specs.inner.Places.{record_at}
 use Rattle.model.specs.tables.Tables.{pivot_at, last_pivot, WFPivots, ContainsAllKeys, ContainsRange}
-use Rattle.model.specs.calls.Refusals.{◌⇒◌, yes_or_no, answer, decision}
+use Rattle.model.specs.calls.Refusals.{◌⇒◌, answer}
 use Rattle.model.specs.calls.KeyCalls.{not_record, not_element}
 use Rattle.model.specs.calls.TableCalls.{pivot_causes, contains_range_answer}
 use Rattle.model.proofs.keys.Order.{lte_max}
@@ -88,11 +85,11 @@ module _ (p : List ℕ) (wf : WFPivots (elements p) ≡ true) where
 -- ---- the range that is asked about
 
 module _ (l r : List ℕ) (t c : Bool) (f : t ≡ passes false (key l) (element r)) where
-  pub not_below : t ≡ true → Refused NotBelow ≡ decision ((not (lt (key l) (element r)) ⇒ NotBelow) ∷ []) c
-  not_below h = here Refused _ _ _ NotBelow [] (rw (← f, h)) refl
+  pub not_below : t ≡ true → Err NotBelow ≡ answer ((not (lt (key l) (element r)) ⇒ NotBelow) ∷ []) c
+  not_below h = here Err _ _ _ NotBelow [] (rw (← f, h)) refl
 
-  pub is_below_lem : (x : Decided) → t ≡ false → x ≡ yes_or_no c → x ≡ decision ((not (lt (key l) (element r)) ⇒ NotBelow) ∷ []) c
-  is_below_lem x h e = later Refused _ _ _ NotBelow [] (rw (← f, h)) (done Refused _ _ e)
+  pub is_below_lem : (x : Result Bool Refusal) → t ≡ false → x ≡ Ok c → x ≡ answer ((not (lt (key l) (element r)) ⇒ NotBelow) ∷ []) c
+  is_below_lem x h e = later Err _ _ _ NotBelow [] (rw (← f, h)) (done Err _ _ e)
 
 pub too_long_left : (l r : List ℕ) → 64 < length l → true ≡ (too_long l || not_element r)
 too_long_left l r h = rw (lt-ltb 64 (length l) h)
@@ -101,18 +98,18 @@ pub right_read : (l r : List ℕ) (t : Bool) → length l ≤ 64 → t ≡ eleme
 right_read l r t h e = rw (le-ltb 64 (length l) h, e)
 
 -- what is said of a question's answer
-pub said : (x : Decided) (t b : Bool) → x ≡ yes_or_no t → t ≡ b → x ≡ yes_or_no b
+pub said : (x : Result Bool Refusal) (t b : Bool) → x ≡ Ok t → t ≡ b → x ≡ Ok b
 said x t b e h = rw (← h) e
 
 -- the range beside the table
-module _ (p l r : List ℕ) (bad : Bool) (n : ℕ) (x : Answer) (b : bad ≡ (too_long l || not_element r))
+module _ (p l r : List ℕ) (bad : Bool) (n : ℕ) (x : Result ℕ Refusal) (b : bad ≡ (too_long l || not_element r))
     (e : x ≡ answer (pivot_causes (not_record r) bad p) n) where
   found : x ≡ answer (pivot_causes (not_record r) (too_long l || not_element r) p) n
   found = rw b at e
 
-  pub range_refused : (s : Refusal) → x ≡ answers.Refused s → Refused s ≡ contains_range_answer p l r
-  range_refused s h = handed_on-first _ n x found Refused _ (Refused s) _ s h refl
+  pub range_refused : (s : Refusal) (z : Result Bool Refusal) → x ≡ Err s → z ≡ Err s → z ≡ contains_range_answer p l r
+  range_refused s z h o = handed_on-first _ n x found Err _ z _ s h o
 
-  pub range_asked : (m : ℕ) (y : Decided) → x ≡ answers.Value m
-      → y ≡ decision ((not (lt (key l) (element r)) ⇒ NotBelow) ∷ []) (ContainsRange (elements p) (key l) (element r)) → y ≡ contains_range_answer p l r
-  range_asked m y h q = call_passed_first _ n x found Refused _ y _ m h q
+  pub range_asked : (m : ℕ) (y : Result Bool Refusal) → x ≡ Ok m
+      → y ≡ answer ((not (lt (key l) (element r)) ⇒ NotBelow) ∷ []) (ContainsRange (elements p) (key l) (element r)) → y ≡ contains_range_answer p l r
+  range_asked m y h q = call_passed_first _ n x found Err _ y _ m h q

@@ -1,4 +1,5 @@
 -- Parts written one after the other: whether there is room for them, and what is left where there is.
+use Rattle.std.specs.Prelude.{Result, Ok, Err}
 use mathlib.Core.Path.{◌≡◌, refl, ap, ◌∙◌}
 use mathlib.Core.Bool.{Bool, true, false, ◌||◌}
 use mathlib.Core.List.{List, [], ◌∷◌, ◌++◌}
@@ -9,8 +10,6 @@ use lib.Dec.{ltb}
 use lib.ListN.{length, length-append}
 use Rattle.model.specs.declared.Refusal.{Refusal}
 use Rattle.model.specs.declared.Refusal.TheVariants.{NoRoom}
-use Rattle.model.specs.declared.Answer.{Answer}
-use Rattle.model.specs.declared.Answer.TheVariants as answers
 use Rattle.model.specs.inner.Written.{into}
 use Rattle.model.specs.calls.Refusals.{Cause, ◌⇒◌, outcome, answer, leaves}
 use Rattle.model.specs.calls.KeyCalls.{no_room}
@@ -28,25 +27,25 @@ module _ (a b c : List ℕ) (room : ℕ) where
   parts_length : length (a ++ (b ++ c)) ≡ length a + length b + length c
   parts_length = rw (length-append, length-append) (omega arith)
 
-  lacks : room < length (a ++ (b ++ c)) → answers.Refused NoRoom ≡ answer (lacking (a ++ (b ++ c)) room) (length (a ++ (b ++ c)))
-  lacks h = here answers.Refused _ _ _ NoRoom [] (lt-ltb room (length (a ++ (b ++ c))) h) refl
+  lacks : room < length (a ++ (b ++ c)) → Err NoRoom ≡ answer (lacking (a ++ (b ++ c)) room) (length (a ++ (b ++ c)))
+  lacks h = here Err _ _ _ NoRoom [] (lt-ltb room (length (a ++ (b ++ c))) h) refl
 
-  pub first_lacks : room < length a → answers.Refused NoRoom ≡ answer (lacking (a ++ (b ++ c)) room) (length (a ++ (b ++ c)))
+  pub first_lacks : room < length a → Err NoRoom ≡ answer (lacking (a ++ (b ++ c)) room) (length (a ++ (b ++ c)))
   first_lacks h = lacks (omega (arith, parts_length))
 
   pub second_lacks : length a ≤ room → room - length a < length b
-      → answers.Refused NoRoom ≡ answer (lacking (a ++ (b ++ c)) room) (length (a ++ (b ++ c)))
+      → Err NoRoom ≡ answer (lacking (a ++ (b ++ c)) room) (length (a ++ (b ++ c)))
   second_lacks h i = lacks (omega (arith, parts_length))
 
   pub third_lacks : length a ≤ room → length b ≤ room - length a → room - length a - length b < length c
-      → answers.Refused NoRoom ≡ answer (lacking (a ++ (b ++ c)) room) (length (a ++ (b ++ c)))
+      → Err NoRoom ≡ answer (lacking (a ++ (b ++ c)) room) (length (a ++ (b ++ c)))
   third_lacks h i j = lacks (omega (arith, parts_length))
 
   pub parts_measured : length a ≤ room → length b ≤ room - length a → length c ≤ room - length a - length b
-      → answers.Value (room - (room - length a - length b - length c)) ≡ answer (lacking (a ++ (b ++ c)) room) (length (a ++ (b ++ c)))
+      → Ok (room - (room - length a - length b - length c)) ≡ answer (lacking (a ++ (b ++ c)) room) (length (a ++ (b ++ c)))
   parts_measured h i j =
       let k : length (a ++ (b ++ c)) ≤ room = omega (arith, parts_length) in
-      later answers.Refused _ _ _ NoRoom [] (le-ltb room (length (a ++ (b ++ c))) k) (value_done answers.Refused _ _ (omega (arith, parts_length)))
+      later Err _ _ _ NoRoom [] (le-ltb room (length (a ++ (b ++ c))) k) (value_done Err _ _ (omega (arith, parts_length)))
 
 -- ---- both destinations: x is written to dp and y to de
 
@@ -57,30 +56,30 @@ unfolding outcome
 either_cause f v true t r = refl
 either_cause f v false t r = refl
 
-module _ (x dp : List ℕ) (p : Answer) (g : p ≡ answer (lacking x (length dp)) (length x)) (y de : List ℕ) where
-  pub pivots_lack : {A : Type 0} (f : Refusal → A) (v u : A) (r : Refusal) → p ≡ answers.Refused r → u ≡ f r
+module _ (x dp : List ℕ) (p : Result ℕ Refusal) (g : p ≡ answer (lacking x (length dp)) (length x)) (y de : List ℕ) where
+  pub pivots_lack : {A : Type 0} (f : Refusal → A) (v u : A) (r : Refusal) → p ≡ Err r → u ≡ f r
       → u ≡ outcome f (room_causes (length x) (length y) dp de) v
   pivots_lack f v u r h w =
       rw (either_cause f v (no_room (length x) dp) (no_room (length y) de) NoRoom)
       (handed_on-first (lacking x (length dp)) (length x) p g f v u (lacking y (length de)) r h w)
 
-  module _ (m : ℕ) (h : p ≡ answers.Value m) (q : Answer) (k : q ≡ answer (lacking y (length de)) (length y)) where
-    pub edges_lack : {A : Type 0} (f : Refusal → A) (v u : A) (r : Refusal) → q ≡ answers.Refused r → u ≡ f r
+  module _ (m : ℕ) (h : p ≡ Ok m) (q : Result ℕ Refusal) (k : q ≡ answer (lacking y (length de)) (length y)) where
+    pub edges_lack : {A : Type 0} (f : Refusal → A) (v u : A) (r : Refusal) → q ≡ Err r → u ≡ f r
         → u ≡ outcome f (room_causes (length x) (length y) dp de) v
     edges_lack f v u r i w =
         rw (either_cause f v (no_room (length x) dp) (no_room (length y) de) NoRoom)
         (call_passed_first (lacking x (length dp)) (length x) p g f v u (lacking y (length de)) m h
         (handed_on (lacking y (length de)) (length y) q k f v u r i w))
 
-    module _ (n : ℕ) (i : q ≡ answers.Value n) where
+    module _ (n : ℕ) (i : q ≡ Ok n) where
       roomy : {A : Type 0} (f : Refusal → A) (v u : A) → u ≡ v → u ≡ outcome f (room_causes (length x) (length y) dp de) v
       roomy f v u w =
           rw (either_cause f v (no_room (length x) dp) (no_room (length y) de) NoRoom)
           (call_passed_first (lacking x (length dp)) (length x) p g f v u (lacking y (length de)) m h
           (call_passed (lacking y (length de)) (length y) q k f v u n i w))
 
-      pub table_counted : answers.Value (m / 66) ≡ answer (room_causes (length x) (length y) dp de) (length x / 66)
-      table_counted = roomy answers.Refused _ _ (ap (λ (l : ℕ). answers.Value (l / 66)) (value_is (lacking x (length dp)) (length x) p g m h))
+      pub table_counted : Ok (m / 66) ≡ answer (room_causes (length x) (length y) dp de) (length x / 66)
+      table_counted = roomy Err _ _ (ap (λ (l : ℕ). Ok (l / 66)) (value_is (lacking x (length dp)) (length x) p g m h))
 
       pub pivots_written : (w : List ℕ) → w ≡ into x dp → w ≡ leaves (room_causes (length x) (length y) dp de) x dp
       pivots_written w j =

@@ -1,4 +1,6 @@
 -- The key at a place of a table.
+use Rattle.std.specs.Prelude.{Result, Ok, Err}
+use Rattle.model.specs.declared.Refusal.{Refusal}
 use mathlib.Core.Path.{◌≡◌, refl, ◌∙◌}
 use mathlib.Core.Bool.{Bool, true, false, cond, ◌&&◌, false≢true}
 use mathlib.Core.List.{List, [], ◌∷◌}
@@ -9,8 +11,6 @@ use borrow.Author.Tests.{lt-ltb, le-ltb, ltb-true, not-false}
 use lib.Dec.{eqb, ltb}
 use lib.ListN.{length}
 use Rattle.model.specs.declared.Refusal.TheVariants.{NoSuchSlot}
-use Rattle.model.specs.declared.Answer.{Answer}
-use Rattle.model.specs.declared.Answer.TheVariants.{Value, Refused}
 use Rattle.model.specs.keys.Order.{key, max, is_key}
 use Rattle.model.specs.records.Record.{max_mark, length_field, key_bytes, element, elements}
 use Rattle.model.specs.inner.Places.{record_at}
@@ -22,26 +22,26 @@ use Rattle.model.proofs.keys.Key.{both}
 use Rattle.model.proofs.calls.TableCalls.{length_elements, element_at}
 
 module _ (p : List ℕ) (i : ℕ) where
-  pub no_place : length p / 66 ≤ i → Refused NoSuchSlot ≡ answer ((no_key_at (elements p) i ⇒ NoSuchSlot) ∷ []) (length (GetKey (elements p) i))
-  no_place h = here Refused _ _ _ NoSuchSlot [] (rw (length_elements p, le-ltb i (length p / 66) h)) refl
+  pub no_place : length p / 66 ≤ i → Err NoSuchSlot ≡ answer ((no_key_at (elements p) i ⇒ NoSuchSlot) ∷ []) (length (GetKey (elements p) i))
+  no_place h = here Err _ _ _ NoSuchSlot [] (rw (length_elements p, le-ltb i (length p / 66) h)) refl
 
   module _ (a : List ℕ) (t : Bool) (h : i < length p / 66) (e : a ≡ record_at p i) (f : t ≡ eqb (length_field a) max_mark) where
     place_is : pivot_at (elements p) i ≡ cond t max (key (key_bytes a))
     unfolding element
     place_is = rw (f, e) (element_at p i h)
 
-    pub max_there : t ≡ true → Refused NoSuchSlot ≡ answer ((no_key_at (elements p) i ⇒ NoSuchSlot) ∷ []) (length (GetKey (elements p) i))
-    max_there g = here Refused _ _ _ NoSuchSlot [] (rw (length_elements p, lt-ltb i (length p / 66) h, place_is, g)) refl
+    pub max_there : t ≡ true → Err NoSuchSlot ≡ answer ((no_key_at (elements p) i ⇒ NoSuchSlot) ∷ []) (length (GetKey (elements p) i))
+    max_there g = here Err _ _ _ NoSuchSlot [] (rw (length_elements p, lt-ltb i (length p / 66) h, place_is, g)) refl
 
     pub key_there : (x : List ℕ) → t ≡ false → x ≡ key_bytes a
-        → Value (length x) ≡ answer ((no_key_at (elements p) i ⇒ NoSuchSlot) ∷ []) (length (GetKey (elements p) i))
+        → Ok (length x) ≡ answer ((no_key_at (elements p) i ⇒ NoSuchSlot) ∷ []) (length (GetKey (elements p) i))
     unfolding GetKey
     key_there x g w =
-        later Refused _ _ _ NoSuchSlot [] (rw (length_elements p, lt-ltb i (length p / 66) h, place_is, g))
-        (value_done Refused (length x) _ (rw (w, place_is, g)))
+        later Err _ _ _ NoSuchSlot [] (rw (length_elements p, lt-ltb i (length p / 66) h, place_is, g))
+        (value_done Err (length x) _ (rw (w, place_is, g)))
 
   -- the part that it fills
-  module _ (x : Answer) (m : ℕ) (e : x ≡ answer (get_key_causes p i) (length (GetKey (elements p) i))) (h : x ≡ Value m) where
+  module _ (x : Result ℕ Refusal) (m : ℕ) (e : x ≡ answer (get_key_causes p i) (length (GetKey (elements p) i))) (h : x ≡ Ok m) where
     nothing_applies : first (get_key_causes p i) ≡ none
     nothing_applies = accepted (get_key_causes p i) (length (GetKey (elements p) i)) x e m h
 

@@ -1,2 +1,3 @@
 pub mod Pairing
 pub mod Translating
+pub mod Rules

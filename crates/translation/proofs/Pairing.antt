@@ -1,17 +1,14 @@
 -- The pair of a key's slot, by the records of its pivots and its edge.
-use mathlib.Core.Path.{◌≡◌}
+use Rattle.std.specs.Prelude.{Result, Ok, Err}
+use mathlib.Core.Path.{◌≡◌, ap}
 use mathlib.Core.Bool.{true, false}
 use mathlib.Core.List.{List, [], append-nil}
-use mathlib.Core.Option.{none}
+use mathlib.Core.Option.{Option, none, some}
 use Prim.Native.Nat.{ℕ, ◌+◌, ◌≤◌, ◌<◌}
 use native.Mathlib.Omega.{arith}
 use borrow.Author.Tests.{leb-true}
 use lib.ListN.{length, take, length-take}
 use Rattle.model.specs.declared.Refusal.{Refusal}
-use Rattle.model.specs.declared.Answer.{Answer}
-use Rattle.model.specs.declared.Answer.TheVariants as answers
-use Rattle.model.specs.declared.Routed.{Routed}
-use Rattle.model.specs.declared.Routed.TheVariants as routed
 use Rattle.model.specs.declared.EdgeKind.{EdgeKind}
 use Rattle.model.specs.declared.EdgeKind.TheVariants as kinds
 use Rattle.model.specs.keys.Key.{max_len}
@@ -22,17 +19,20 @@ use Rattle.model.specs.inner.Places.{record_at}
 use Rattle.model.specs.inner.Written.{clipped}
 use Rattle.model.specs.ranges.RangePrefix.{PivotLcp}
 use Rattle.model.specs.tables.Tables.{max_pivots, short_edge, CutoffForRight}
-use Rattle.model.specs.translation.PrefixSet.{pair}
-use Rattle.model.specs.translation.PairState.{PairState, state_of}
+use Rattle.model.specs.translation.PrefixSet.{PrefixSet, pair}
+use Rattle.model.specs.translation.PairState.{PairState, state_with, state_of}
+use Rattle.model.specs.translation.PairRecord.{flag}
+use Rattle.pairs.specs.declared.PrefixSet as code
+use Rattle.pairs.specs.State.{state, told_there}
 use Rattle.model.specs.translation.Translation.{edge_pair, Translate}
-use Rattle.model.specs.calls.Refusals.{Cause, outcome, first, routing}
+use Rattle.model.specs.calls.Refusals.{Cause, outcome, first, answer}
 use Rattle.model.specs.calls.PairCalls.{there_number}
 use Rattle.model.specs.calls.TranslationCalls.{translate_causes, translate_answer, translate_pair}
 use Rattle.model.proofs.Lists.{clipped_all}
 use Rattle.model.proofs.keys.Key.{prefix_is_take}
 use Rattle.model.proofs.records.Record.{absent_edge, prefix_edge}
 use Rattle.model.proofs.ranges.RangePrefix.{prefix_of_left}
-use Rattle.model.proofs.calls.Refusals.{passed, slot_accepted, slot_is, slot_handed_on}
+use Rattle.model.proofs.calls.Refusals.{passed, accepted, value_is, handed_on-first}
 use Rattle.model.proofs.calls.CutCalls.{cut_left_key, cut_right_element, cut_old_edge, cut_left_short, cut_edge_short, cut_slot_small}
 use Rattle.translation.specs.Translated.{slot_pair}
 
@@ -45,10 +45,6 @@ module _ (p e : List ℕ) (c : ℕ) (a : List ℕ) (t : EdgeKind) (g : a ≡ rec
     unfolding edge_pair
     absent_is = rw (← g, absent_edge a t m u)
 
-    pub absent_number : answers.Value 0 ≡ answers.Value (there_number (slot_pair p e c))
-    unfolding there_number
-    absent_number = rw absent_is
-
     pub absent_pair : (z : PairState) → z ≡ state_of none → z ≡ state_of (slot_pair p e c)
     absent_pair z h = rw absent_is h
 
@@ -57,10 +53,6 @@ module _ (p e : List ℕ) (c : ℕ) (a : List ℕ) (t : EdgeKind) (g : a ≡ rec
     there_is : slot_pair p e c ≡ pair (PivotLcp (key (key_bytes (record_at p c))) (element (record_at p (c + 1)))) (key_bytes a)
     unfolding edge_pair
     there_is = rw (← g, prefix_edge a t m f u)
-
-    pub there_number_lem : answers.Value 1 ≡ answers.Value (there_number (slot_pair p e c))
-    unfolding there_number
-    there_number_lem = rw there_is
 
     module _ (b x s q : List ℕ) (n : ℕ) (j : b ≡ record_at p c) (o : x ≡ key_bytes b) (l : s ≡ record_at p (c + 1))
         (r : n ≡ length (PivotLcp (key x) (element s))) (w : q ≡ key_bytes a) where
@@ -75,19 +67,25 @@ module _ (p e : List ℕ) (c : ℕ) (a : List ℕ) (t : EdgeKind) (g : a ≡ rec
           let i : length q ≤ max_len = rw w (leb-true (length (key_bytes a)) max_len (rw (← g, prefix_edge a t m f u) at v)) in
           rw there_is (rw (clipped_all (take n x) d, clipped_all q i, prefix_is, w) at h)
 
+-- the answer tells whether the pair is there
+told_is : (x : code.PrefixSet) (o : Option PrefixSet) → state x ≡ state_of o → told_there (Ok x) ≡ Ok (there_number o)
+unfolding state_of state_with there_number
+told_is x none h = ap (λ (s : PairState). Ok (flag s.there)) h
+told_is x (some a) h = ap (λ (s : PairState). Ok (flag s.there)) h
+
 -- ---- the slot of a key
 
 -- the refusal of a call that answers a slot is handed on
-module _ (cs : List Cause) (n : ℕ) (s : Routed) (e : s ≡ routing cs n) where
-  pub slot_refused : {A : Type 0} (f : Refusal → A) (v x : A) (r : Refusal) → s ≡ routed.Refused r → x ≡ f r → x ≡ outcome f cs v
-  slot_refused f v x r h q = rw append-nil at (slot_handed_on cs n s e f v x [] r h q)
+module _ (cs : List Cause) (n : ℕ) (s : Result ℕ Refusal) (e : s ≡ answer cs n) where
+  pub slot_refused : {A : Type 0} (f : Refusal → A) (v x : A) (r : Refusal) → s ≡ Err r → x ≡ f r → x ≡ outcome f cs v
+  slot_refused f v x r h q = rw append-nil at (handed_on-first cs n s e f v x [] r h q)
 
-module _ (p e k : List ℕ) (s : Routed) (c : ℕ) (h : s ≡ routing (translate_causes p e k) (CutoffForRight (elements p) k)) (f : s ≡ routed.Slot c) where
+module _ (p e k : List ℕ) (s : Result ℕ Refusal) (c : ℕ) (h : s ≡ answer (translate_causes p e k) (CutoffForRight (elements p) k)) (f : s ≡ Ok c) where
   ok : first (translate_causes p e k) ≡ none
-  ok = slot_accepted (translate_causes p e k) (CutoffForRight (elements p) k) s h c f
+  ok = accepted (translate_causes p e k) (CutoffForRight (elements p) k) s h c f
 
   at : c ≡ CutoffForRight (elements p) k
-  at = slot_is (translate_causes p e k) (CutoffForRight (elements p) k) s h c f
+  at = value_is (translate_causes p e k) (CutoffForRight (elements p) k) s h c f
 
   -- its number is small
   pub slot_small : c < max_pivots
@@ -105,8 +103,8 @@ module _ (p e k : List ℕ) (s : Routed) (c : ℕ) (h : s ≡ routing (translate
   unfolding Translate CutoffForRight
   slot_translates = rw (at, cut_left_key false p e k ok, cut_right_element false p e k ok, cut_old_edge false p e k ok)
 
-  pub translate_answer_lem : (x : Answer) → x ≡ answers.Value (there_number (slot_pair p e c)) → x ≡ translate_answer p e k
-  translate_answer_lem x y = passed answers.Refused _ x (translate_causes p e k) ok (rw slot_translates at y)
+  pub translate_answer_lem : (x : code.PrefixSet) → state x ≡ state_of (slot_pair p e c) → told_there (Ok x) ≡ translate_answer p e k
+  translate_answer_lem x y = passed Err _ (told_there (Ok x)) (translate_causes p e k) ok (rw slot_translates at (told_is x _ y))
 
   pub translate_pair_lem : (z : PairState) → z ≡ state_of (slot_pair p e c) → z ≡ translate_pair p e k
   translate_pair_lem z y = passed (λ (_ : Refusal). state_of none) _ z (translate_causes p e k) ok (rw slot_translates at y)

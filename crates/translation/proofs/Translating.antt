@@ -1,4 +1,5 @@
 -- The translation of a key is a change of prefix in its slot, with only the causes 8 and 10 left.
+use Rattle.std.specs.Prelude.{Result}
 use mathlib.Core.Path.{◌≡◌, refl, sym, ◌∙◌}
 use mathlib.Core.Bool.{true, false}
 use mathlib.Core.List.{List}
@@ -10,7 +11,6 @@ use lib.ListN.{length, take, get_or}
 use mir.Val.{Fits}
 use mir.Syntax.{w8}
 use Rattle.model.specs.declared.Refusal.{Refusal}
-use Rattle.model.specs.declared.Answer.{Answer}
 use Rattle.model.specs.declared.EdgeKind.{EdgeKind}
 use Rattle.model.specs.declared.EdgeKind.TheVariants as kinds
 use Rattle.model.specs.keys.Key.{max_len, IsPrefix, change_prefix}
@@ -50,7 +50,7 @@ module _ (p e k : List ℕ) (c : ℕ) (h : first (edge_slot_causes p e k (Bounde
       unfolding IsPrefix
       kept_causes f v = rw kept (only_sizes f v k (take 0 k) (take 0 k) d (cut_key false p e k h) (omega arith) refl)
 
-      pub kept_answer : (z : Answer) → z ≡ change_prefix_answer k (take 0 k) (take 0 k) d
+      pub kept_answer : (z : Result ℕ Refusal) → z ≡ change_prefix_answer k (take 0 k) (take 0 k) d
           → z ≡ answer (size_causes (translated p e k) d) (length (translated p e k))
       kept_answer z y = y ∙ kept_causes _ _ ∙ rw kept
 
@@ -87,7 +87,7 @@ module _ (p e k : List ℕ) (c : ℕ) (h : first (edge_slot_causes p e k (Bounde
           → outcome f (change_prefix_causes k (take n x) q d) v ≡ outcome f (size_causes (translated p e k) d) v
       changed_causes_lem f v = rw changed (only_sizes f v k (take n x) q d (cut_key false p e k h) edge_short prefix_begins)
 
-      pub changed_answer : (z : Answer) → z ≡ change_prefix_answer k (take n x) q d
+      pub changed_answer : (z : Result ℕ Refusal) → z ≡ change_prefix_answer k (take n x) q d
           → z ≡ answer (size_causes (translated p e k) d) (length (translated p e k))
       changed_answer z y = y ∙ changed_causes_lem _ _ ∙ rw changed
 

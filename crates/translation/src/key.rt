@@ -10,10 +10,17 @@ ghost use Rattle.model.specs.calls.TranslationCalls.{translate_key_answer, trans
 ghost use Rattle.model.specs.calls.TableCalls.{edge_slot_causes};
 ghost use Rattle.translation.specs.Translated.{translated};
 
-use model::{Answer, EdgeKind, Routed};
+use model::{EdgeKind, Refusal};
 
 // The key of slot c changed: its prefix, the prefix of the slot's range, becomes the slot's edge. Without an edge it is the key itself.
-fn translate_in(pivots: &[u8], edges: &[u8], k: &[u8], c: usize, dest: &mut [u8]) -> Answer
+#[tactic(auto, using(crate::proofs::Rules::translate_in))]
+fn translate_in(
+    pivots: &[u8],
+    edges: &[u8],
+    k: &[u8],
+    c: usize,
+    dest: &mut [u8],
+) -> Result<usize, Refusal>
     requires { (first (edge_slot_causes pivots.now edges.now k.now (BoundedKey (elements pivots.now) k.now)) ≡ none) × (c ≡ cutoff false (elements pivots.now) k.now) }
     ensures answered { result ≡ answer (size_causes (translated pivots.now edges.now k.now) dest.old) (length (translated pivots.now edges.now k.now)) }
     ensures written { dest.new ≡ leaves (size_causes (translated pivots.now edges.now k.now) dest.old) (translated pivots.now edges.now k.now) dest.old }
@@ -31,13 +38,16 @@ fn translate_in(pivots: &[u8], edges: &[u8], k: &[u8], c: usize, dest: &mut [u8]
 }
 
 // TranslateKey: the key translated, at the head of dest. Answers its length. Refuses 1, 2, 3, 4, 5, 8 and 10.
-pub fn translate_key(pivots: &[u8], edges: &[u8], key: &[u8], dest: &mut [u8]) -> Answer
+#[tactic(auto, using(crate::proofs::Rules::translate_key))]
+pub fn translate_key(
+    pivots: &[u8],
+    edges: &[u8],
+    key: &[u8],
+    dest: &mut [u8],
+) -> Result<usize, Refusal>
     ensures answered { result ≡ translate_key_answer pivots.now edges.now key.now dest.old }
     ensures written { dest.new ≡ translate_key_leaves pivots.now edges.now key.now dest.old }
 {
-    let routed = routing::slot_with_edges(pivots, edges, key, false);
-    let Routed::Slot(c) = routed else {
-        return routing::slot_answer(routed);
-    };
+    let c = routing::slot_with_edges(pivots, edges, key, false)?;
     translate_in(pivots, edges, key, c, dest)
 }

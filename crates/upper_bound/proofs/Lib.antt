@@ -1,2 +1,3 @@
 pub mod Down
 pub mod Raising
+pub mod Rules

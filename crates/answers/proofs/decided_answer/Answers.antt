@@ -1,14 +1,9 @@
-use Rattle.answers.proofs.Telling.{turning}
 use borrow.Author.Rules.{rules}
+use Rattle.answers.proofs.Rules.{decided_answer}
 use Rattle.answers.proofs.decided_answer.Goals as goal
 
-ruleset own = (rules, turning)
+pub returns-in_err-d : goal.returns-in_err-d
+returns-in_err-d c = search (rules, decided_answer, c.in_err-d.was)
 
-pub returns-in-Yes : goal.returns-in-Yes
-returns-in-Yes c = search own
-
-pub returns-in-No : goal.returns-in-No
-returns-in-No c = search own
-
-pub returns-in-Refused : goal.returns-in-Refused
-returns-in-Refused c = search own
+pub returns : goal.returns
+returns c = search (rules, decided_answer, c.in_ok-d.was)

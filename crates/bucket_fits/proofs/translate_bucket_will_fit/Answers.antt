@@ -1,13 +1,6 @@
-use mathlib.Core.Path.{refl}
-use Rattle.bucket_measures.proofs.Causes.{check_good, check_refused}
-use Rattle.bucket_fits.proofs.Fitting.{will_decided}
 use borrow.Author.Rules.{rules}
+use Rattle.bucket_fits.proofs.Rules.{translate_bucket_will_fit}
 use Rattle.bucket_fits.proofs.translate_bucket_will_fit.Goals as goal
 
-ruleset own = (rules, refl, check_good, check_refused, will_decided)
-
-pub returns-in-Value : goal.returns-in-Value
-returns-in-Value c = search own
-
-pub returns-in-Refused : goal.returns-in-Refused
-returns-in-Refused c = search own
+pub returns-in_err-check_bucket : goal.returns-in_err-check_bucket
+returns-in_err-check_bucket c = search (rules, translate_bucket_will_fit, c.in_err-check_bucket.was)

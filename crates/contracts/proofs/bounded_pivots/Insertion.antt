@@ -1,4 +1,5 @@
 -- BoundedPivotsLib, lines 287 to 289: InsertPivot, by the call that inserts a pivot with its edges.
+use Rattle.std.specs.Prelude.{Err}
 use mathlib.Core.Path.{◌≡◌, refl, sym, ap, ◌∙◌}
 use mathlib.Core.Bool.{Bool, true, false, true≢false}
 use mathlib.Core.List.{List, [], ◌∷◌, ◌++◌}
@@ -9,7 +10,6 @@ use borrow.Author.Tests.{not-false}
 use lib.ListN.{length, take, drop, length-append, length-drop, get_or-append}
 use lib.Seq.{length-take-le, get_or_at, get_or-take}
 use Rattle.model.specs.declared.Refusal.TheVariants.{OutOfRange, AlreadyPivot}
-use Rattle.model.specs.declared.Answer.TheVariants as answers
 use Rattle.model.specs.keys.Key.{Key, too_long}
 use Rattle.model.specs.keys.Order.{key, max}
 use Rattle.model.specs.records.Record.{elements}
@@ -67,19 +67,19 @@ not_insertable p e k h f = go (is_pivot (elements p) k) refl
 
 module _ (p e : List ℕ) (k : Key) (dp de : List ℕ) where
   -- requires WFPivots(pt)
-  pub bounded_pivots_288 : WFPivots (elements p) ≡ false → Refuses answers.Refused 3 (insert_answer p e k dp de)
+  pub bounded_pivots_288 : WFPivots (elements p) ≡ false → Refuses Err 3 (insert_answer p e k dp de)
   bounded_pivots_288 h =
       call_refuses _ _ 3 _ (more_refused 3 _ _ (more_refused 3 (table_causes false (too_long k) p e) _ (table_pivots_refused false (too_long k) p e h)))
 
   -- requires PivotInsertable(pt, idx, key)
   pub bounded_pivots_289 : PivotInsertable (elements p) (Route (elements p) k + 1) k ≡ false
-      → RefusesAt answers.Refused (insert_causes p e k dp de) 5 AlreadyPivot (insert_answer p e k dp de)
+      → RefusesAt Err (insert_causes p e k dp de) 5 AlreadyPivot (insert_answer p e k dp de)
   unfolding table_causes pivot_causes
   bounded_pivots_289 h = refuses_unless _ _ (insert_causes p e k dp de) 5 _ _ _ refl (not_insertable p e k h)
 
   -- requires PivotInsertable(pt, idx, key)
   pub bounded_pivots_289c : ContainsRange (elements p) (key k) (key k) ≡ false
-      → RefusesAt answers.Refused (insert_causes p e k dp de) 4 OutOfRange (insert_answer p e k dp de)
+      → RefusesAt Err (insert_causes p e k dp de) 4 OutOfRange (insert_answer p e k dp de)
   unfolding table_causes pivot_causes
   bounded_pivots_289c h = refuses_at _ _ (insert_causes p e k dp de) 4 _ _ _ refl (not_fails _ h)
 

@@ -1,4 +1,5 @@
 -- BoundedPivotsLib, lines 79 to 145 and 237 to 250: ContainsRange, bounded keys, PivotInsertable.
+use Rattle.std.specs.Prelude.{Ok, Err}
 use mathlib.Core.Path.{◌≡◌, refl, ◌∙◌}
 use mathlib.Core.Bool.{true, false, ◌&&◌, ◌||◌}
 use mathlib.Core.List.{List, [], ◌∷◌, map}
@@ -8,13 +9,12 @@ use native.Mathlib.Omega.{arith}
 use borrow.Author.Tests.{lt-ltb}
 use lib.ListN.{length, get_or, length-map}
 use Rattle.model.specs.declared.Refusal.TheVariants.{Shape, Malformed, NotBelow}
-use Rattle.model.specs.declared.Decided.TheVariants as decided
 use Rattle.model.specs.keys.Key.{Key, max_len, too_long}
 use Rattle.model.specs.keys.Order.{Element, key, max, lte, lt}
 use Rattle.model.specs.records.Record.{element, elements, encode, encode_all}
 use Rattle.model.specs.tables.Tables.{PivotTable, max_pivots, pivot_at, last_pivot, all, short_element, IsStrictlySorted, WFPivots}
 use Rattle.model.specs.tables.Tables.{ContainsRange, BoundedKey, ValidLeftCutOffKey, PivotInsertable}
-use Rattle.model.specs.calls.Refusals.{outcome, first, yes_or_no}
+use Rattle.model.specs.calls.Refusals.{outcome, first}
 use Rattle.model.specs.calls.KeyCalls.{not_record, not_element}
 use Rattle.model.specs.calls.TableCalls.{pivot_causes, key_causes, contains_range_causes, contains_range_answer, bounded_key_answer, valid_left_cut_off_key_answer, pivot_insertable_answer}
 use Rattle.model.proofs.Lists.{all_inside, inside_all, get_d_map}
@@ -33,27 +33,27 @@ use Rattle.contracts.proofs.Lent.{accepted, go_on, element_lent, pivots_read_lem
 
 module _ (p : List ℕ) (l : Key) (r : List ℕ) where
   -- requires WFPivots(pt)
-  pub bounded_pivots_89 : WFPivots (elements p) ≡ false → Refuses decided.Refused 3 (contains_range_answer p l r)
+  pub bounded_pivots_89 : WFPivots (elements p) ≡ false → Refuses Err 3 (contains_range_answer p l r)
   bounded_pivots_89 h = call_refuses _ _ 3 _ (more_refused 3 (pivot_causes (not_record r) (too_long l || not_element r) p) _ (pivots_refused _ _ p h))
 
   -- requires |pt| < 0x4000_0000_0000_0000
-  pub bounded_pivots_90 : max_pivots < length (elements p) → RefusesAt decided.Refused (contains_range_causes p l r) 0 Shape (contains_range_answer p l r)
+  pub bounded_pivots_90 : max_pivots < length (elements p) → RefusesAt Err (contains_range_causes p l r) 0 Shape (contains_range_answer p l r)
   unfolding pivot_causes
   bounded_pivots_90 h = refuses_at _ _ (contains_range_causes p l r) 0 _ _ _ refl (or_right (not_record r) _ (too_many p h))
 
   -- requires ElementIsKey(left)
-  pub bounded_pivots_91 : ElementIsKey (key l) ≡ false → RefusesAt decided.Refused (contains_range_causes p l r) 1 Malformed (contains_range_answer p l r)
+  pub bounded_pivots_91 : ElementIsKey (key l) ≡ false → RefusesAt Err (contains_range_causes p l r) 1 Malformed (contains_range_answer p l r)
   unfolding pivot_causes
   bounded_pivots_91 h = refuses_at _ _ (contains_range_causes p l r) 1 _ _ _ refl (or_left (too_long l || not_element r) _ (or_left (too_long l) _ (not_key_long l h)))
 
   -- requires Keyspace.lt(left, right)
-  pub bounded_pivots_92 : lt (key l) (element r) ≡ false → RefusesAt decided.Refused (contains_range_causes p l r) 3 NotBelow (contains_range_answer p l r)
+  pub bounded_pivots_92 : lt (key l) (element r) ≡ false → RefusesAt Err (contains_range_causes p l r) 3 NotBelow (contains_range_answer p l r)
   unfolding pivot_causes
   bounded_pivots_92 h = refuses_at _ _ (contains_range_causes p l r) 3 _ _ _ refl (not_fails _ h)
 
 -- ensures b == ContainsRange(pt, left, right)
 pub bounded_pivots_93 : (pt : PivotTable) (l : Key) (r : Element) → WFPivots pt ≡ true → length pt ≤ max_pivots → length l ≤ max_len → short_element r ≡ true
-    → lt (key l) r ≡ true → contains_range_answer (encode_all pt) l (encode r) ≡ yes_or_no (ContainsRange pt (key l) r)
+    → lt (key l) r ≡ true → contains_range_answer (encode_all pt) l (encode r) ≡ Ok (ContainsRange pt (key l) r)
 bounded_pivots_93 pt l r w m s t h =
     let e = element_lent r t in
     rw (pivots_read_lem pt w, e.stands)
@@ -102,29 +102,29 @@ bounded_pivots_114 pt (k ∷ ks) s =
 
 module _ (p : List ℕ) (k : Key) where
   -- requires |pt| < 0x4000_0000_0000_0000
-  pub bounded_pivots_132 : max_pivots < length (elements p) → RefusesAt decided.Refused (key_causes p k) 0 Shape (bounded_key_answer p k)
+  pub bounded_pivots_132 : max_pivots < length (elements p) → RefusesAt Err (key_causes p k) 0 Shape (bounded_key_answer p k)
   unfolding pivot_causes
   bounded_pivots_132 h = refuses_at _ _ (key_causes p k) 0 _ _ _ refl (too_many p h)
 
   -- requires WFPivots(pt)
-  pub bounded_pivots_133 : WFPivots (elements p) ≡ false → Refuses decided.Refused 3 (bounded_key_answer p k)
+  pub bounded_pivots_133 : WFPivots (elements p) ≡ false → Refuses Err 3 (bounded_key_answer p k)
   bounded_pivots_133 h = call_refuses _ _ 3 _ (pivots_refused _ _ p h)
 
   -- requires |pt| < 0x4000_0000_0000_0000
-  pub bounded_pivots_143 : max_pivots < length (elements p) → RefusesAt decided.Refused (key_causes p k) 0 Shape (valid_left_cut_off_key_answer p k)
+  pub bounded_pivots_143 : max_pivots < length (elements p) → RefusesAt Err (key_causes p k) 0 Shape (valid_left_cut_off_key_answer p k)
   unfolding pivot_causes
   bounded_pivots_143 h = refuses_at _ _ (key_causes p k) 0 _ _ _ refl (too_many p h)
 
   -- requires WFPivots(pt)
-  pub bounded_pivots_144 : WFPivots (elements p) ≡ false → Refuses decided.Refused 3 (valid_left_cut_off_key_answer p k)
+  pub bounded_pivots_144 : WFPivots (elements p) ≡ false → Refuses Err 3 (valid_left_cut_off_key_answer p k)
   bounded_pivots_144 h = call_refuses _ _ 3 _ (pivots_refused _ _ p h)
 
   -- requires WFPivots(pt)
-  pub bounded_pivots_248 : (i : ℕ) → WFPivots (elements p) ≡ false → Refuses decided.Refused 3 (pivot_insertable_answer p i k)
+  pub bounded_pivots_248 : (i : ℕ) → WFPivots (elements p) ≡ false → Refuses Err 3 (pivot_insertable_answer p i k)
   bounded_pivots_248 i h = call_refuses _ _ 3 _ (pivots_refused _ _ p h)
 
   -- requires |pt| < 0x4000_0000_0000_0000
-  pub bounded_pivots_249 : (i : ℕ) → max_pivots < length (elements p) → RefusesAt decided.Refused (key_causes p k) 0 Shape (pivot_insertable_answer p i k)
+  pub bounded_pivots_249 : (i : ℕ) → max_pivots < length (elements p) → RefusesAt Err (key_causes p k) 0 Shape (pivot_insertable_answer p i k)
   unfolding pivot_causes
   bounded_pivots_249 i h = refuses_at _ _ (key_causes p k) 0 _ _ _ refl (too_many p h)
 
@@ -134,13 +134,13 @@ module _ (pt : PivotTable) (k : Key) (w : WFPivots pt ≡ true) (m : length pt �
   no_cause = pivots_lent pt w false (too_long k) m refl (not_too_long k s)
 
   -- ensures b == BoundedKey(pt, key)
-  pub bounded_pivots_134 : bounded_key_answer (encode_all pt) k ≡ yes_or_no (BoundedKey pt k)
+  pub bounded_pivots_134 : bounded_key_answer (encode_all pt) k ≡ Ok (BoundedKey pt k)
   bounded_pivots_134 = rw (pivots_read_lem pt w) (accepted _ _ (key_causes (encode_all pt) k) no_cause)
 
   -- ensures b == ValidLeftCutOffKey(pt, key)
-  pub bounded_pivots_145 : valid_left_cut_off_key_answer (encode_all pt) k ≡ yes_or_no (ValidLeftCutOffKey pt k)
+  pub bounded_pivots_145 : valid_left_cut_off_key_answer (encode_all pt) k ≡ Ok (ValidLeftCutOffKey pt k)
   bounded_pivots_145 = rw (pivots_read_lem pt w) (accepted _ _ (key_causes (encode_all pt) k) no_cause)
 
   -- ensures b == PivotInsertable(pt, idx as int, key)
-  pub bounded_pivots_250 : (i : ℕ) → pivot_insertable_answer (encode_all pt) i k ≡ yes_or_no (PivotInsertable pt i k)
+  pub bounded_pivots_250 : (i : ℕ) → pivot_insertable_answer (encode_all pt) i k ≡ Ok (PivotInsertable pt i k)
   bounded_pivots_250 i = rw (pivots_read_lem pt w) (accepted _ _ (key_causes (encode_all pt) k) no_cause)

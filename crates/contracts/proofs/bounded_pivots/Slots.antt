@@ -1,4 +1,5 @@
 -- BoundedPivotsLib, lines 177 to 197, 229 to 234, 294 to 308, 336 to 350 and 378: the slot of a key, and the cut-offs.
+use Rattle.std.specs.Prelude.{Ok, Err}
 use mathlib.Core.Path.{◌≡◌, refl, sym}
 use mathlib.Core.Bool.{true, false, ◌&&◌}
 use mathlib.Core.List.{List}
@@ -8,7 +9,6 @@ use borrow.Author.Tests.{eqb-true, eq-eqb}
 use lib.Dec.{eqb}
 use lib.ListN.{length}
 use Rattle.model.specs.declared.Refusal.TheVariants.{Shape, OutOfRange}
-use Rattle.model.specs.declared.Routed.TheVariants as routed
 use Rattle.model.specs.keys.Key.{Key, max_len}
 use Rattle.model.specs.keys.Order.{key, lte, lt}
 use Rattle.model.specs.ranges.RangePrefix.{InBetween}
@@ -95,57 +95,57 @@ module _ (pt : PivotTable) (k : Key) (w : WFPivots pt ≡ true) (v : ValidLeftCu
 
 module _ (p : List ℕ) (k : Key) where
   -- requires |pt| < 0x4000_0000_0000_0000
-  pub bounded_pivots_188 : max_pivots < length (elements p) → RefusesAt routed.Refused (slot_causes p k (BoundedKey (elements p) k)) 0 Shape (route_answer p k)
+  pub bounded_pivots_188 : max_pivots < length (elements p) → RefusesAt Err (slot_causes p k (BoundedKey (elements p) k)) 0 Shape (route_answer p k)
   unfolding pivot_causes
   bounded_pivots_188 h = refuses_at _ _ (slot_causes p k (BoundedKey (elements p) k)) 0 _ _ _ refl (too_many p h)
 
   -- requires WFPivots(pt)
-  pub bounded_pivots_189 : WFPivots (elements p) ≡ false → Refuses routed.Refused 3 (route_answer p k)
+  pub bounded_pivots_189 : WFPivots (elements p) ≡ false → Refuses Err 3 (route_answer p k)
   bounded_pivots_189 h = call_refuses _ _ 3 _ (more_refused 3 (key_causes p k) _ (pivots_refused _ _ p h))
 
   -- requires BoundedKey(pt, key)
-  pub bounded_pivots_190 : BoundedKey (elements p) k ≡ false → RefusesAt routed.Refused (slot_causes p k (BoundedKey (elements p) k)) 3 OutOfRange (route_answer p k)
+  pub bounded_pivots_190 : BoundedKey (elements p) k ≡ false → RefusesAt Err (slot_causes p k (BoundedKey (elements p) k)) 3 OutOfRange (route_answer p k)
   unfolding pivot_causes
   bounded_pivots_190 h = refuses_at _ _ (slot_causes p k (BoundedKey (elements p) k)) 3 _ _ _ refl (not_fails _ h)
 
   -- requires |pt| < 0x4000_0000_0000_0000
-  pub bounded_pivots_305 : max_pivots < length (elements p) → RefusesAt routed.Refused (slot_causes p k (ValidLeftCutOffKey (elements p) k)) 0 Shape (cutoff_for_left_answer p k)
+  pub bounded_pivots_305 : max_pivots < length (elements p) → RefusesAt Err (slot_causes p k (ValidLeftCutOffKey (elements p) k)) 0 Shape (cutoff_for_left_answer p k)
   unfolding pivot_causes
   bounded_pivots_305 h = refuses_at _ _ (slot_causes p k (ValidLeftCutOffKey (elements p) k)) 0 _ _ _ refl (too_many p h)
 
   -- requires WFPivots(pt)
-  pub bounded_pivots_306 : WFPivots (elements p) ≡ false → Refuses routed.Refused 3 (cutoff_for_left_answer p k)
+  pub bounded_pivots_306 : WFPivots (elements p) ≡ false → Refuses Err 3 (cutoff_for_left_answer p k)
   bounded_pivots_306 h = call_refuses _ _ 3 _ (more_refused 3 (key_causes p k) _ (pivots_refused _ _ p h))
 
   -- requires ValidLeftCutOffKey(pt, pivot)
-  pub bounded_pivots_307 : ValidLeftCutOffKey (elements p) k ≡ false → RefusesAt routed.Refused (slot_causes p k (ValidLeftCutOffKey (elements p) k)) 3 OutOfRange (cutoff_for_left_answer p k)
+  pub bounded_pivots_307 : ValidLeftCutOffKey (elements p) k ≡ false → RefusesAt Err (slot_causes p k (ValidLeftCutOffKey (elements p) k)) 3 OutOfRange (cutoff_for_left_answer p k)
   unfolding pivot_causes
   bounded_pivots_307 h = refuses_at _ _ (slot_causes p k (ValidLeftCutOffKey (elements p) k)) 3 _ _ _ refl (not_fails _ h)
 
   -- requires |pt| < 0x4000_0000_0000_0000
-  pub bounded_pivots_347 : max_pivots < length (elements p) → RefusesAt routed.Refused (slot_causes p k (BoundedKey (elements p) k)) 0 Shape (cutoff_for_right_answer p k)
+  pub bounded_pivots_347 : max_pivots < length (elements p) → RefusesAt Err (slot_causes p k (BoundedKey (elements p) k)) 0 Shape (cutoff_for_right_answer p k)
   unfolding pivot_causes
   bounded_pivots_347 h = refuses_at _ _ (slot_causes p k (BoundedKey (elements p) k)) 0 _ _ _ refl (too_many p h)
 
   -- requires WFPivots(pt)
-  pub bounded_pivots_348 : WFPivots (elements p) ≡ false → Refuses routed.Refused 3 (cutoff_for_right_answer p k)
+  pub bounded_pivots_348 : WFPivots (elements p) ≡ false → Refuses Err 3 (cutoff_for_right_answer p k)
   bounded_pivots_348 h = call_refuses _ _ 3 _ (more_refused 3 (key_causes p k) _ (pivots_refused _ _ p h))
 
   -- requires BoundedKey(pt, pivot)
-  pub bounded_pivots_349 : BoundedKey (elements p) k ≡ false → RefusesAt routed.Refused (slot_causes p k (BoundedKey (elements p) k)) 3 OutOfRange (cutoff_for_right_answer p k)
+  pub bounded_pivots_349 : BoundedKey (elements p) k ≡ false → RefusesAt Err (slot_causes p k (BoundedKey (elements p) k)) 3 OutOfRange (cutoff_for_right_answer p k)
   unfolding pivot_causes
   bounded_pivots_349 h = refuses_at _ _ (slot_causes p k (BoundedKey (elements p) k)) 3 _ _ _ refl (not_fails _ h)
 
 -- lent the records of a table, and a key
 module _ (pt : PivotTable) (k : Key) (w : WFPivots pt ≡ true) (m : length pt ≤ max_pivots) (s : length k ≤ max_len) where
   -- ensures i as int == Route(pt, key)
-  pub bounded_pivots_191 : BoundedKey pt k ≡ true → route_answer (encode_all pt) k ≡ routed.Slot (Route pt k)
+  pub bounded_pivots_191 : BoundedKey pt k ≡ true → route_answer (encode_all pt) k ≡ Ok (Route pt k)
   bounded_pivots_191 b = rw (pivots_read_lem pt w) (accepted _ _ (slot_causes (encode_all pt) k (BoundedKey pt k)) (slot_lent pt w k _ m s b))
 
   -- ensures i as int == CutoffForLeft(pt, pivot)
-  pub bounded_pivots_308 : ValidLeftCutOffKey pt k ≡ true → cutoff_for_left_answer (encode_all pt) k ≡ routed.Slot (CutoffForLeft pt k)
+  pub bounded_pivots_308 : ValidLeftCutOffKey pt k ≡ true → cutoff_for_left_answer (encode_all pt) k ≡ Ok (CutoffForLeft pt k)
   bounded_pivots_308 v = rw (pivots_read_lem pt w) (accepted _ _ (slot_causes (encode_all pt) k (ValidLeftCutOffKey pt k)) (slot_lent pt w k _ m s v))
 
   -- ensures i as int == CutoffForRight(pt, pivot)
-  pub bounded_pivots_350 : BoundedKey pt k ≡ true → cutoff_for_right_answer (encode_all pt) k ≡ routed.Slot (CutoffForRight pt k)
+  pub bounded_pivots_350 : BoundedKey pt k ≡ true → cutoff_for_right_answer (encode_all pt) k ≡ Ok (CutoffForRight pt k)
   bounded_pivots_350 b = rw (pivots_read_lem pt w) (accepted _ _ (slot_causes (encode_all pt) k (BoundedKey pt k)) (slot_lent pt w k _ m s b))

@@ -1,16 +1,15 @@
 -- BoundedPivotsLib, lines 30 to 71: elements, well-formed tables, and the table of all keys.
+use Rattle.std.specs.Prelude.{Ok, Err}
 use mathlib.Core.Path.{◌≡◌, refl, sym, ◌∙◌}
 use mathlib.Core.Bool.{true, false, ◌&&◌}
 use mathlib.Core.List.{List, []}
 use Prim.Native.Nat.{ℕ, ◌≤◌, ◌<◌}
 use lib.ListN.{length, get_or, length-map}
 use Rattle.model.specs.declared.Refusal.TheVariants.{Shape}
-use Rattle.model.specs.declared.Decided.TheVariants as decided
 use Rattle.model.specs.keys.Key.{Key}
 use Rattle.model.specs.keys.Order.{Element, key, max, is_key, lte, same}
 use Rattle.model.specs.records.Record.{elements, encode_all}
 use Rattle.model.specs.tables.Tables.{PivotTable, max_pivots, pivot_at, last_pivot, short_element, ElementsAreKeys, WFPivots, ContainsAllKeys}
-use Rattle.model.specs.calls.Refusals.{yes_or_no}
 use Rattle.model.specs.calls.TableCalls.{pivot_causes, contains_all_keys_answer}
 use Rattle.model.proofs.Lists.{get_d_map, all_inside, inside_all}
 use Rattle.model.proofs.keys.Key.{both}
@@ -76,14 +75,14 @@ bounded_pivots_61 pt = (to, λ w f l. rw (w, is_same (pivot_at pt 0) (key []) f)
         (b.0, same_is (pivot_at pt 0) (key []) b.1, same_is (last_pivot pt) max a.1)
 
 -- requires WFPivots(pt)
-pub bounded_pivots_69 : (p : List ℕ) → WFPivots (elements p) ≡ false → Refuses decided.Refused 3 (contains_all_keys_answer p)
+pub bounded_pivots_69 : (p : List ℕ) → WFPivots (elements p) ≡ false → Refuses Err 3 (contains_all_keys_answer p)
 bounded_pivots_69 p h = call_refuses _ _ 3 _ (pivots_refused false false p h)
 
 -- requires |pt| < 0x4000_0000_0000_0000
-pub bounded_pivots_70 : (p : List ℕ) → max_pivots < length (elements p) → RefusesAt decided.Refused (pivot_causes false false p) 0 Shape (contains_all_keys_answer p)
+pub bounded_pivots_70 : (p : List ℕ) → max_pivots < length (elements p) → RefusesAt Err (pivot_causes false false p) 0 Shape (contains_all_keys_answer p)
 unfolding pivot_causes
 bounded_pivots_70 p h = refuses_at _ _ (pivot_causes false false p) 0 _ _ _ refl (too_many p h)
 
 -- ensures b == ContainsAllKeys(pt)
-pub bounded_pivots_71 : (pt : PivotTable) → WFPivots pt ≡ true → length pt ≤ max_pivots → contains_all_keys_answer (encode_all pt) ≡ yes_or_no (ContainsAllKeys pt)
+pub bounded_pivots_71 : (pt : PivotTable) → WFPivots pt ≡ true → length pt ≤ max_pivots → contains_all_keys_answer (encode_all pt) ≡ Ok (ContainsAllKeys pt)
 bounded_pivots_71 pt w m = rw (pivots_read_lem pt w) (accepted _ _ (pivot_causes false false (encode_all pt)) (pivots_lent pt w false false m refl refl))

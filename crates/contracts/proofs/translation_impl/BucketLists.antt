@@ -1,4 +1,5 @@
 -- TranslationImpl, lines 321 to 469: lists of buckets under another prefix. A list is a bucket with its index, its buckets are the slots' (W5).
+use Rattle.std.specs.Prelude.{Ok, Err}
 use mathlib.Core.Path.{◌≡◌, refl, sym, ◌∙◌}
 use mathlib.Core.Bool.{true, false, ◌&&◌, ◌||◌}
 use mathlib.Core.List.{List, [], ◌∷◌}
@@ -10,14 +11,12 @@ use borrow.Author.Tests.{lt-ltb}
 use lib.Dec.{leb}
 use lib.ListN.{length, get_or}
 use Rattle.model.specs.declared.Refusal.TheVariants.{TooLong, NoRoom, WrongIndex}
-use Rattle.model.specs.declared.Answer.TheVariants as answers
-use Rattle.model.specs.declared.Decided.TheVariants as decided
 use Rattle.model.specs.keys.Key.{Key, too_long}
 use Rattle.model.specs.records.Record.{elements}
 use Rattle.model.specs.tables.Tables.{all, InitPivotTable, BoundedKey}
 use Rattle.model.specs.buckets.Bucket.{Entry, Bucket, entry_size, entries, TranslateBucket, TranslateBuckets}
 use Rattle.model.specs.buckets.Index.{slot_buckets, together, place_size}
-use Rattle.model.specs.calls.Refusals.{paired, first, yes_or_no}
+use Rattle.model.specs.calls.Refusals.{paired, first}
 use Rattle.model.specs.calls.KeyCalls.{no_room}
 use Rattle.model.specs.calls.TableCalls.{pivot_causes}
 use Rattle.model.specs.calls.BucketCalls.{bucket_causes, short_entry, needed_bytes, rename_causes, will_fit_answer}
@@ -45,7 +44,7 @@ module _ (blist : List Bucket) (p q : Key) where
   -- ensures b == TranslateBucketsWillFit(MutBucket.ILseq(mbuckets), prefix, newPrefix)
   -- asked of the bucket in which the list is: no kept key of any bucket passes 64 bytes, and n bytes hold the entries kept
   pub translation_impl_346 : (l x : List ℕ) → ILseq l x blist → first (rename_causes l p q) ≡ none → (n : ℕ)
-      → will_fit_answer l p q n ≡ yes_or_no (all short_entry (together (TranslateBuckets blist p q)) && leb (length (together (TranslateBuckets blist p q)) * entry_size) n)
+      → will_fit_answer l p q n ≡ Ok (all short_entry (together (TranslateBuckets blist p q)) && leb (length (together (TranslateBuckets blist p q)) * entry_size) n)
   unfolding needed_bytes
   translation_impl_346 l x h c n =
       let e : TranslateBucket (entries l) p q ≡ together (TranslateBuckets blist p q) = rw h.bucket (sym (renamed_together p q blist)) in
@@ -55,50 +54,50 @@ module _ (blist : List Bucket) (p q : Key) where
 module _ (p l x : List ℕ) (old new : Key) (db dx : List ℕ) where
   -- requires MutBucket.InvLseq(mbuckets)
   -- the bucket isn't one whose entries rise (1, 2 or 14 then), or the index has no place for each bucket and the total, rising from 0 on
-  pub translation_impl_345 : (InvLseq l x (length (slot_buckets (elements p) (entries l))) → ⊥) → RefusesAt answers.Refused (translate_index_causes p l x old new db dx) 7 WrongIndex (translate_index_answer p l x old new db dx)
+  pub translation_impl_345 : (InvLseq l x (length (slot_buckets (elements p) (entries l))) → ⊥) → RefusesAt Err (translate_index_causes p l x old new db dx) 7 WrongIndex (translate_index_answer p l x old new db dx)
   translation_impl_345 = list_unsound (too_long old || too_long new) false p l x _ _
 
   -- ensures b ==> (forall i | 0 <= i < |mbuckets| :: WillFitInPkv(lseqs(mbuckets)[i], prefix, newPrefix))
   -- where it says yes of the bucket, and no cause before 8 applies, the list is translated, if there is room for the places
-  pub translation_impl_347 : will_fit_answer l old new (length db) ≡ decided.Yes → first (given_causes (too_long old || too_long new) false p l x) ≡ none → length (elements p) * place_size ≤ length dx
+  pub translation_impl_347 : will_fit_answer l old new (length db) ≡ Ok true → first (given_causes (too_long old || too_long new) false p l x) ≡ none → length (elements p) * place_size ≤ length dx
       → (TranslateBucketsWillFit (slot_buckets (elements p) (entries l)) old new)
-      × (translate_index_answer p l x old new db dx ≡ answers.Value (length (together (TranslateBuckets (slot_buckets (elements p) (entries l)) old new))))
+      × (translate_index_answer p l x old new db dx ≡ Ok (length (together (TranslateBuckets (slot_buckets (elements p) (entries l)) old new))))
   translation_impl_347 y g r =
       let f = yes_fits p l x old new db dx _ refl g y in
       (f.0, list_accepted p l x old new db dx _ refl g f.0 f.1 r)
 
   -- requires MutBucket.InvLseq(blist)
   -- the bucket isn't one whose entries rise (1, 2 or 14 then), or the index has no place for each bucket and the total, rising from 0 on
-  pub translation_impl_431 : (InvLseq l x (length (slot_buckets (elements p) (entries l))) → ⊥) → RefusesAt answers.Refused (translate_index_causes p l x old new db dx) 7 WrongIndex (translate_index_answer p l x old new db dx)
+  pub translation_impl_431 : (InvLseq l x (length (slot_buckets (elements p) (entries l))) → ⊥) → RefusesAt Err (translate_index_causes p l x old new db dx) 7 WrongIndex (translate_index_answer p l x old new db dx)
   translation_impl_431 = translation_impl_345
 
   -- requires forall i | 0 <= i < |blist| :: WillFitInPkv(blist[i], prefix, newPrefix)
   -- a kept key of one bucket would pass 64 bytes
   pub translation_impl_432 : (i : ℕ) → i < length (slot_buckets (elements p) (entries l)) → TranslateBucketWillFit (get_or (slot_buckets (elements p) (entries l)) i []) old new ≡ false
-      → RefusesAt answers.Refused (translate_index_causes p l x old new db dx) 8 TooLong (translate_index_answer p l x old new db dx)
+      → RefusesAt Err (translate_index_causes p l x old new db dx) 8 TooLong (translate_index_answer p l x old new db dx)
   translation_impl_432 = long_refused p l x old new db dx _ refl
 
   -- requires forall i | 0 <= i < |blist| :: WillFitInPkv(blist[i], prefix, newPrefix)
   -- a destination would not hold the entries kept of all buckets, or the places
   pub translation_impl_432b : (length db < length (together (TranslateBuckets (slot_buckets (elements p) (entries l)) old new)) * entry_size) ⊎ (length dx < length (elements p) * place_size)
-      → RefusesAt answers.Refused (translate_index_causes p l x old new db dx) 9 NoRoom (translate_index_answer p l x old new db dx)
+      → RefusesAt Err (translate_index_causes p l x old new db dx) 9 NoRoom (translate_index_answer p l x old new db dx)
   translation_impl_432b = full_refused p l x old new db dx _ refl
 
   -- requires bucket.Inv()
   -- the bucket isn't whole entries, has more than 512, or a record that is no key's
-  pub translation_impl_460 : Inv l ≡ false → Refuses answers.Refused 2 (translate_index_answer p l x old new db dx)
+  pub translation_impl_460 : Inv l ≡ false → Refuses Err 2 (translate_index_answer p l x old new db dx)
   translation_impl_460 = bucket_refused (too_long old || too_long new) false p l x _ _
 
   -- requires WillFitInPkv(bucket, prefix, newPrefix)
   -- a kept key would pass 64 bytes
-  pub translation_impl_461 : TranslateBucketWillFit (entries l) old new ≡ false → RefusesAt answers.Refused (translate_index_causes p l x old new db dx) 8 TooLong (translate_index_answer p l x old new db dx)
+  pub translation_impl_461 : TranslateBucketWillFit (entries l) old new ≡ false → RefusesAt Err (translate_index_causes p l x old new db dx) 8 TooLong (translate_index_answer p l x old new db dx)
   unfolding given_causes entries_causes paired pivot_causes bucket_causes
   translation_impl_461 h = refuses_at _ _ (translate_index_causes p l x old new db dx) 8 _ _ _ refl (not_fails _ h)
 
   -- requires WillFitInPkv(bucket, prefix, newPrefix)
   -- a destination would not hold the entries kept, or the places, one and the total
   pub translation_impl_461b : length (elements p) ≡ 2 → (length db < length (TranslateBucket (entries l) old new) * entry_size) ⊎ (length dx < 2 * place_size)
-      → RefusesAt answers.Refused (translate_index_causes p l x old new db dx) 9 NoRoom (translate_index_answer p l x old new db dx)
+      → RefusesAt Err (translate_index_causes p l x old new db dx) 9 NoRoom (translate_index_answer p l x old new db dx)
   unfolding given_causes entries_causes paired pivot_causes bucket_causes needed_bytes
   translation_impl_461b e h =
       refuses_at _ _ (translate_index_causes p l x old new db dx) 9 _ _ _ refl

@@ -1,4 +1,5 @@
 -- TranslationImpl, lines 285 to 428: a bucket under another prefix, and whether it will fit.
+use Rattle.std.specs.Prelude.{Ok, Err}
 use mathlib.Core.Path.{◌≡◌, refl, ◌∙◌}
 use mathlib.Core.Bool.{Bool, true, false, cond, not, ◌&&◌, ◌||◌}
 use mathlib.Core.List.{List, [], ◌∷◌, ◌++◌, append-nil}
@@ -10,12 +11,10 @@ use borrow.Author.Tests.{le-leb, lt-leb, le-ltb, lt-ltb}
 use lib.Dec.{leb, ltb}
 use lib.ListN.{length, take, get_or}
 use Rattle.model.specs.declared.Refusal.TheVariants.{TooLong, NoRoom}
-use Rattle.model.specs.declared.Answer.TheVariants as answers
-use Rattle.model.specs.declared.Decided.TheVariants as decided
 use Rattle.model.specs.keys.Key.{Key, max_len, too_long, IsPrefix}
 use Rattle.model.specs.tables.Tables.{all}
 use Rattle.model.specs.buckets.Bucket.{Entry, Bucket, entry_size, max_entries, entries, encode_bucket, translate_entry, TranslateBucket, sized_entry}
-use Rattle.model.specs.calls.Refusals.{outcome, first, over, yes_or_no}
+use Rattle.model.specs.calls.Refusals.{outcome, first, over}
 use Rattle.model.specs.calls.BucketCalls.{bucket_causes, short_entry, needed_bytes, rename_causes, translate_bucket_causes, translate_bucket_answer, translate_bucket_leaves, will_fit_answer}
 use Rattle.model.proofs.Lists.{le_or_lt}
 use Rattle.model.proofs.calls.TableCalls.{not_too_long}
@@ -68,41 +67,41 @@ module _ (l : List ℕ) (p q : Key) (d : List ℕ) where
 
   -- requires mbucket.Inv()
   -- the bucket isn't whole entries, has more than 512, or a record that is no key's
-  pub translation_impl_329 : (n : ℕ) → Inv l ≡ false → Refuses decided.Refused 2 (will_fit_answer l p q n)
-  translation_impl_329 n h = call_refuses decided.Refused _ 2 (rename_causes l p q) (renaming_refused h)
+  pub translation_impl_329 : (n : ℕ) → Inv l ≡ false → Refuses Err 2 (will_fit_answer l p q n)
+  translation_impl_329 n h = call_refuses Err _ 2 (rename_causes l p q) (renaming_refused h)
 
   -- requires mbucket.Inv()
   -- the bucket isn't whole entries, has more than 512, or a record that is no key's
-  pub translation_impl_390 : Inv l ≡ false → Refuses answers.Refused 2 (translate_bucket_answer l p q d)
-  translation_impl_390 h = call_refuses answers.Refused _ 2 (translate_bucket_causes l p q d) (more_refused 2 (rename_causes l p q) _ (renaming_refused h))
+  pub translation_impl_390 : Inv l ≡ false → Refuses Err 2 (translate_bucket_answer l p q d)
+  translation_impl_390 h = call_refuses Err _ 2 (translate_bucket_causes l p q d) (more_refused 2 (rename_causes l p q) _ (renaming_refused h))
 
   -- ensures b == TranslateBucketWillFit(mbucket.I(), prefix, newPrefix)
   -- it says no exactly where the renaming, into so long a destination, is refused with 8 or 10
-  pub translation_impl_330 : (will_fit_answer l p q (length d) ≡ decided.No
-      → (translate_bucket_answer l p q d ≡ answers.Refused TooLong) ⊎ (translate_bucket_answer l p q d ≡ answers.Refused NoRoom))
-      × ((translate_bucket_answer l p q d ≡ answers.Refused TooLong) ⊎ (translate_bucket_answer l p q d ≡ answers.Refused NoRoom) → will_fit_answer l p q (length d) ≡ decided.No)
+  pub translation_impl_330 : (will_fit_answer l p q (length d) ≡ Ok false
+      → (translate_bucket_answer l p q d ≡ Err TooLong) ⊎ (translate_bucket_answer l p q d ≡ Err NoRoom))
+      × ((translate_bucket_answer l p q d ≡ Err TooLong) ⊎ (translate_bucket_answer l p q d ≡ Err NoRoom) → will_fit_answer l p q (length d) ≡ Ok false)
   translation_impl_330 = (no_refused l p q d, ⊎_elim (eight_no l p q d) (ten_no l p q d))
 
   -- ensures b ==> WillFitInPkv(mbucket, prefix, newPrefix)
   -- where it says yes, the renaming is accepted
-  pub translation_impl_331 : will_fit_answer l p q (length d) ≡ decided.Yes → translate_bucket_answer l p q d ≡ answers.Value (length (TranslateBucket (entries l) p q))
+  pub translation_impl_331 : will_fit_answer l p q (length d) ≡ Ok true → translate_bucket_answer l p q d ≡ Ok (length (TranslateBucket (entries l) p q))
   translation_impl_331 = yes_accepted l p q d
 
   -- requires WillFitInPkv(mbucket, prefix, newPrefix);
   -- a kept key would pass 64 bytes
-  pub translation_impl_391 : TranslateBucketWillFit (entries l) p q ≡ false → RefusesAt answers.Refused (translate_bucket_causes l p q d) 2 TooLong (translate_bucket_answer l p q d)
+  pub translation_impl_391 : TranslateBucketWillFit (entries l) p q ≡ false → RefusesAt Err (translate_bucket_causes l p q d) 2 TooLong (translate_bucket_answer l p q d)
   unfolding bucket_causes
   translation_impl_391 h = refuses_at _ _ (translate_bucket_causes l p q d) 2 _ _ _ refl (not_fails _ h)
 
   -- requires WillFitInPkv(mbucket, prefix, newPrefix);
   -- the destination would not hold the entries kept
-  pub translation_impl_391b : length d < length (TranslateBucket (entries l) p q) * entry_size → RefusesAt answers.Refused (translate_bucket_causes l p q d) 3 NoRoom (translate_bucket_answer l p q d)
+  pub translation_impl_391b : length d < length (TranslateBucket (entries l) p q) * entry_size → RefusesAt Err (translate_bucket_causes l p q d) 3 NoRoom (translate_bucket_answer l p q d)
   unfolding bucket_causes needed_bytes
   translation_impl_391b h = refuses_at _ _ (translate_bucket_causes l p q d) 3 _ _ _ refl (lt-ltb (length d) (length (TranslateBucket (entries l) p q) * entry_size) h)
 
   -- ensures mbucket'.Inv()
   -- what an accepted call leaves passes the check of a bucket
-  pub translation_impl_392 : (n : ℕ) → translate_bucket_answer l p q d ≡ answers.Value n → Inv (take (n * entry_size) (translate_bucket_leaves l p q d)) ≡ true
+  pub translation_impl_392 : (n : ℕ) → translate_bucket_answer l p q d ≡ Ok n → Inv (take (n * entry_size) (translate_bucket_leaves l p q d)) ≡ true
   translation_impl_392 n h = (inv_is (take (n * entry_size) (translate_bucket_leaves l p q d))).1 (renamed_passes l p q d n h)
 
 -- neither 8 nor 10
@@ -117,13 +116,13 @@ module _ (b : Bucket) (z : all sized_entry b ≡ true) (m : length b ≤ max_ent
 
   -- ensures b == TranslateBucketWillFit(mbucket.I(), prefix, newPrefix)
   -- no kept key passes 64 bytes, and n bytes hold the entries kept
-  pub translation_impl_330b : (n : ℕ) → will_fit_answer (encode_bucket b) p q n ≡ yes_or_no (WillFitInPkv b p q n)
+  pub translation_impl_330b : (n : ℕ) → will_fit_answer (encode_bucket b) p q n ≡ Ok (WillFitInPkv b p q n)
   unfolding needed_bytes
   translation_impl_330b n = accepted _ _ (rename_causes (encode_bucket b) p q) rename_lent ∙ rw (entries-encode_bucket b z, neither (all short_entry (TranslateBucket b p q)) (length (TranslateBucket b p q) * entry_size) n)
 
   -- ensures mbucket'.I() == TranslateBucket(mbucket.I(), prefix, newPrefix)
   pub translation_impl_393 : (d : List ℕ) → TranslateBucketWillFit b p q ≡ true → length (TranslateBucket b p q) * entry_size ≤ length d
-      → (translate_bucket_answer (encode_bucket b) p q d ≡ answers.Value (length (TranslateBucket b p q)))
+      → (translate_bucket_answer (encode_bucket b) p q d ≡ Ok (length (TranslateBucket b p q)))
       × (translate_bucket_leaves (encode_bucket b) p q d ≡ over (encode_bucket (TranslateBucket b p q)) d)
   unfolding outcome needed_bytes
   translation_impl_393 d k room =

@@ -1,4 +1,5 @@
 -- TranslationImpl, lines 471 to 530: lists of buckets that are cut and then put under another prefix. As lists they are bucket and index (W5).
+use Rattle.std.specs.Prelude.{Ok, Err}
 use mathlib.Core.Path.{◌≡◌, refl, ◌∙◌}
 use mathlib.Core.Bool.{true, false, not, ◌&&◌}
 use mathlib.Core.List.{List, [], ◌∷◌, ◌++◌}
@@ -8,7 +9,6 @@ use native.Mathlib.Omega.{arith}
 use lib.ListN.{length, take, drop, get_or, length-append, length-drop, get_or-append}
 use lib.Seq.{length-take-le, get_or-take, get_or-drop, get_or_at}
 use Rattle.model.specs.declared.Refusal.TheVariants.{Shape, OutOfRange, TooLong, NoRoom, WrongIndex}
-use Rattle.model.specs.declared.Answer.TheVariants as answers
 use Rattle.model.specs.keys.Key.{Key, max_len, too_long}
 use Rattle.model.specs.keys.Order.{key, lt}
 use Rattle.model.specs.records.Record.{elements}
@@ -34,22 +34,22 @@ use Rattle.contracts.proofs.ListsLeft.{list_translated, list_passes, cut_made, c
 module _ (p l x : List ℕ) (k : Key) (db dx : List ℕ) where
   -- requires bucket.Inv()
   -- the bucket that is cut isn't whole entries, has more than 512, or a record that is no key's
-  pub translation_impl_473 : Inv l ≡ false → Refuses answers.Refused 2 (cut_index_answer false p l x k db dx)
+  pub translation_impl_473 : Inv l ≡ false → Refuses Err 2 (cut_index_answer false p l x k db dx)
   translation_impl_473 = bucket_refused (too_long k) (not (BoundedKey (elements p) k)) p l x _ _
 
   -- requires MutBucket.InvLseq(blist)
   -- the bucket isn't one whose entries rise (1, 2 or 14 then), or the index has no place for each bucket and the total, rising from 0 on
-  pub translation_impl_474 : (InvLseq l x (length (slot_buckets (elements p) (entries l))) → ⊥) → RefusesAt answers.Refused (cut_index_causes false p l x k db dx) 7 WrongIndex (cut_index_answer false p l x k db dx)
+  pub translation_impl_474 : (InvLseq l x (length (slot_buckets (elements p) (entries l))) → ⊥) → RefusesAt Err (cut_index_causes false p l x k db dx) 7 WrongIndex (cut_index_answer false p l x k db dx)
   translation_impl_474 = list_unsound (too_long k) (not (BoundedKey (elements p) k)) p l x _ _
 
   -- requires 0 <= cRight as int < |blist|
   -- the key is in no slot
-  pub translation_impl_477 : BoundedKey (elements p) k ≡ false → RefusesAt answers.Refused (cut_index_causes false p l x k db dx) 6 OutOfRange (cut_index_answer false p l x k db dx)
+  pub translation_impl_477 : BoundedKey (elements p) k ≡ false → RefusesAt Err (cut_index_causes false p l x k db dx) 6 OutOfRange (cut_index_answer false p l x k db dx)
   translation_impl_477 h = outside_refused (too_long k) (not (BoundedKey (elements p) k)) p l x _ _ (not_fails _ h)
 
   -- requires |blist| < 0x1_0000_0000_0000_0000
   -- there are at most 63 buckets
-  pub translation_impl_478 : max_pivots ≤ length (slot_buckets (elements p) (entries l)) → RefusesAt answers.Refused (cut_index_causes false p l x k db dx) 0 Shape (cut_index_answer false p l x k db dx)
+  pub translation_impl_478 : max_pivots ≤ length (slot_buckets (elements p) (entries l)) → RefusesAt Err (cut_index_causes false p l x k db dx) 0 Shape (cut_index_answer false p l x k db dx)
   translation_impl_478 = many_refused (too_long k) (not (BoundedKey (elements p) k)) p l x _ _
 
 -- a list that is cut
@@ -70,19 +70,19 @@ module _ (p l x : List ℕ) (k : Key) (p' l' x' : List ℕ) (c : CutsIndex false
     -- requires WillFitInPkv(bucket, prefix, newPrefix)
     -- a kept key of the cut bucket would pass 64 bytes
     pub translation_impl_475 : TranslateBucketWillFit (entries_from (key k) (slot_entries (elements p) (entries l) (CutoffForRight (elements p) k))) old new ≡ false
-        → RefusesAt answers.Refused (translate_index_causes p' l' x' old new db dx) 8 TooLong (translate_index_answer p' l' x' old new db dx)
+        → RefusesAt Err (translate_index_causes p' l' x' old new db dx) 8 TooLong (translate_index_answer p' l' x' old new db dx)
     translation_impl_475 = long_refused p' l' x' old new db dx _ right_list 0 (omega arith)
 
     -- requires WillFitInPkv(bucket, prefix, newPrefix)
     -- a destination would not hold the entries kept of the cut bucket and of those after it, or the places
     pub translation_impl_475b : (length db < length (together (TranslateBuckets (keep_right (elements p) (entries l) k) old new)) * entry_size) ⊎ (length dx < length (elements p') * place_size)
-        → RefusesAt answers.Refused (translate_index_causes p' l' x' old new db dx) 9 NoRoom (translate_index_answer p' l' x' old new db dx)
+        → RefusesAt Err (translate_index_causes p' l' x' old new db dx) 9 NoRoom (translate_index_answer p' l' x' old new db dx)
     translation_impl_475b = full_refused p' l' x' old new db dx _ right_list
 
     -- requires forall i | 0 <= i < |blist| :: WillFitInPkv(blist[i], prefix, newPrefix)
     -- a kept key of a bucket after the cut one would pass 64 bytes
     pub translation_impl_476 : (i : ℕ) → CutoffForRight (elements p) k < i → i < length (slot_buckets (elements p) (entries l)) → TranslateBucketWillFit (get_or (slot_buckets (elements p) (entries l)) i []) old new ≡ false
-        → RefusesAt answers.Refused (translate_index_causes p' l' x' old new db dx) 8 TooLong (translate_index_answer p' l' x' old new db dx)
+        → RefusesAt Err (translate_index_causes p' l' x' old new db dx) 8 TooLong (translate_index_answer p' l' x' old new db dx)
     translation_impl_476 i a h f =
         let n = CutoffForRight (elements p) k + 1 in
         let j = i - n in
@@ -94,7 +94,7 @@ module _ (p l x : List ℕ) (k : Key) (p' l' x' : List ℕ) (c : CutsIndex false
     -- else the translation is accepted
     pub translation_impl_476b : length old ≤ max_len → length new ≤ max_len → TranslateBucketsWillFit (keep_right (elements p) (entries l) k) old new
         → length (together (TranslateBuckets (keep_right (elements p) (entries l) k) old new)) * entry_size ≤ length db → length (elements p') * place_size ≤ length dx
-        → translate_index_answer p' l' x' old new db dx ≡ answers.Value (length (together (TranslateBuckets (keep_right (elements p) (entries l) k) old new)))
+        → translate_index_answer p' l' x' old new db dx ≡ Ok (length (together (TranslateBuckets (keep_right (elements p) (entries l) k) old new)))
     translation_impl_476b s t f a d =
         list_accepted p' l' x' old new db dx _ right_list (cut_given false p l x k p' l' x' c _ (or_neither _ _ (not_too_long old s) (not_too_long new t))) f a d
 
@@ -116,28 +116,28 @@ module _ (p l x : List ℕ) (k : Key) (p' l' x' : List ℕ) (c : CutsIndex false
 module _ (p l x : List ℕ) (db dx : List ℕ) where
   -- requires left.Inv()
   -- the bucket of which the right cut is made isn't whole entries, has more than 512, or a record that is no key's
-  pub translation_impl_500 : (k : Key) → Inv l ≡ false → Refuses answers.Refused 2 (cut_index_answer false p l x k db dx)
+  pub translation_impl_500 : (k : Key) → Inv l ≡ false → Refuses Err 2 (cut_index_answer false p l x k db dx)
   translation_impl_500 k = translation_impl_473 p l x k db dx
 
   module _ (r : Key) where
     -- requires right.Inv()
     -- the bucket of which the left cut is made isn't whole entries, has more than 512, or a record that is no key's
-    pub translation_impl_501 : Inv l ≡ false → Refuses answers.Refused 2 (cut_index_answer true p l x r db dx)
+    pub translation_impl_501 : Inv l ≡ false → Refuses Err 2 (cut_index_answer true p l x r db dx)
     translation_impl_501 = bucket_refused (too_long r) (not (ValidLeftCutOffKey (elements p) r)) p l x _ _
 
     -- requires MutBucket.InvLseq(blist)
     -- the bucket isn't one whose entries rise (1, 2 or 14 then), or the index has no place for each bucket and the total, rising from 0 on
-    pub translation_impl_502 : (InvLseq l x (length (slot_buckets (elements p) (entries l))) → ⊥) → RefusesAt answers.Refused (cut_index_causes true p l x r db dx) 7 WrongIndex (cut_index_answer true p l x r db dx)
+    pub translation_impl_502 : (InvLseq l x (length (slot_buckets (elements p) (entries l))) → ⊥) → RefusesAt Err (cut_index_causes true p l x r db dx) 7 WrongIndex (cut_index_answer true p l x r db dx)
     translation_impl_502 = list_unsound (too_long r) (not (ValidLeftCutOffKey (elements p) r)) p l x _ _
 
     -- requires 0 <= cRight as int < cLeft as int < |blist|
     -- the key of the left cut is in no slot
-    pub translation_impl_503 : ValidLeftCutOffKey (elements p) r ≡ false → RefusesAt answers.Refused (cut_index_causes true p l x r db dx) 6 OutOfRange (cut_index_answer true p l x r db dx)
+    pub translation_impl_503 : ValidLeftCutOffKey (elements p) r ≡ false → RefusesAt Err (cut_index_causes true p l x r db dx) 6 OutOfRange (cut_index_answer true p l x r db dx)
     translation_impl_503 h = outside_refused (too_long r) (not (ValidLeftCutOffKey (elements p) r)) p l x _ _ (not_fails _ h)
 
     -- requires |blist| < 0x1_0000_0000_0000_0000
     -- there are at most 63 buckets
-    pub translation_impl_507 : max_pivots ≤ length (slot_buckets (elements p) (entries l)) → RefusesAt answers.Refused (cut_index_causes true p l x r db dx) 0 Shape (cut_index_answer true p l x r db dx)
+    pub translation_impl_507 : max_pivots ≤ length (slot_buckets (elements p) (entries l)) → RefusesAt Err (cut_index_causes true p l x r db dx) 0 Shape (cut_index_answer true p l x r db dx)
     translation_impl_507 = many_refused (too_long r) (not (ValidLeftCutOffKey (elements p) r)) p l x _ _
 
 -- a list that is cut on the left
@@ -145,7 +145,7 @@ module _ (p l x : List ℕ) (r : Key) (p' l' x' : List ℕ) (c : CutsIndex true 
   -- requires 0 <= cRight as int < cLeft as int < |blist|
   -- the key of the right cut is in no slot of the old table, or not below that of the left one
   pub translation_impl_503b : (BoundedKey (elements p) k && lt (key k) (key r)) ≡ false → (db dx : List ℕ)
-      → RefusesAt answers.Refused (cut_index_causes false p' l' x' k db dx) 6 OutOfRange (cut_index_answer false p' l' x' k db dx)
+      → RefusesAt Err (cut_index_causes false p' l' x' k db dx) 6 OutOfRange (cut_index_answer false p' l' x' k db dx)
   translation_impl_503b h db dx =
       let m = cut_made true p l x r p' l' x' c in
       translation_impl_477 p' l' x' k db dx (rw m.pivots (split_left_bounded (elements p) r m.wf m.cuts k ∙ h))
@@ -194,19 +194,19 @@ module _ (p l x : List ℕ) (r : Key) (p' l' x' : List ℕ) (c : CutsIndex true 
         -- requires WillFitInPkv(left, prefix, newPrefix)
         -- a kept key of the bucket cut on the right would pass 64 bytes
         pub translation_impl_504 : TranslateBucketWillFit (entries_from (key k) (slot_entries (elements p) (entries l) (CutoffForRight (elements p) k))) old new ≡ false
-            → RefusesAt answers.Refused (translate_index_causes p'' l'' x'' old new db dx) 8 TooLong (translate_index_answer p'' l'' x'' old new db dx)
+            → RefusesAt Err (translate_index_causes p'' l'' x'' old new db dx) 8 TooLong (translate_index_answer p'' l'' x'' old new db dx)
         translation_impl_504 = long_refused p'' l'' x'' old new db dx _ node_list 0 (omega arith)
 
         -- requires WillFitInPkv(left, prefix, newPrefix)
         -- a destination would not hold the entries kept of both cut buckets and of those between them, or the places
         pub translation_impl_504b : (length db < length (together (TranslateBuckets (cut_node (elements p) (entries l) k r) old new)) * entry_size) ⊎ (length dx < length (elements p'') * place_size)
-            → RefusesAt answers.Refused (translate_index_causes p'' l'' x'' old new db dx) 9 NoRoom (translate_index_answer p'' l'' x'' old new db dx)
+            → RefusesAt Err (translate_index_causes p'' l'' x'' old new db dx) 9 NoRoom (translate_index_answer p'' l'' x'' old new db dx)
         translation_impl_504b = full_refused p'' l'' x'' old new db dx _ node_list
 
         -- requires WillFitInPkv(right, prefix, newPrefix)
         -- a kept key of the bucket cut on the left would pass 64 bytes
         pub translation_impl_505 : TranslateBucketWillFit (entries_below (key r) (slot_entries (elements p) (entries l) (CutoffForLeft (elements p) r))) old new ≡ false
-            → RefusesAt answers.Refused (translate_index_causes p'' l'' x'' old new db dx) 8 TooLong (translate_index_answer p'' l'' x'' old new db dx)
+            → RefusesAt Err (translate_index_causes p'' l'' x'' old new db dx) 8 TooLong (translate_index_answer p'' l'' x'' old new db dx)
         translation_impl_505 f =
             let a = entries_from (key k) (slot_entries (elements p) (entries l) (CutoffForRight (elements p) k)) in
             let b = entries_below (key r) (slot_entries (elements p) (entries l) (CutoffForLeft (elements p) r)) in
@@ -216,7 +216,7 @@ module _ (p l x : List ℕ) (r : Key) (p' l' x' : List ℕ) (c : CutsIndex true 
         -- requires forall i | cRight as int+1 <= i < cLeft as int :: WillFitInPkv(blist[i], prefix, newPrefix)
         -- a kept key of a bucket between them would pass 64 bytes
         pub translation_impl_506 : (i : ℕ) → CutoffForRight (elements p) k + 1 ≤ i → i < CutoffForLeft (elements p) r → TranslateBucketWillFit (get_or (slot_buckets (elements p) (entries l)) i []) old new ≡ false
-            → RefusesAt answers.Refused (translate_index_causes p'' l'' x'' old new db dx) 8 TooLong (translate_index_answer p'' l'' x'' old new db dx)
+            → RefusesAt Err (translate_index_causes p'' l'' x'' old new db dx) 8 TooLong (translate_index_answer p'' l'' x'' old new db dx)
         translation_impl_506 i u v f =
             let a = entries_from (key k) (slot_entries (elements p) (entries l) (CutoffForRight (elements p) k)) in
             let b = entries_below (key r) (slot_entries (elements p) (entries l) (CutoffForLeft (elements p) r)) in
@@ -233,7 +233,7 @@ module _ (p l x : List ℕ) (r : Key) (p' l' x' : List ℕ) (c : CutsIndex true 
         -- else the translation is accepted
         pub translation_impl_506b : length old ≤ max_len → length new ≤ max_len → TranslateBucketsWillFit (cut_node (elements p) (entries l) k r) old new
             → length (together (TranslateBuckets (cut_node (elements p) (entries l) k r) old new)) * entry_size ≤ length db → length (elements p'') * place_size ≤ length dx
-            → translate_index_answer p'' l'' x'' old new db dx ≡ answers.Value (length (together (TranslateBuckets (cut_node (elements p) (entries l) k r) old new)))
+            → translate_index_answer p'' l'' x'' old new db dx ≡ Ok (length (together (TranslateBuckets (cut_node (elements p) (entries l) k r) old new)))
         translation_impl_506b s t f a b =
             list_accepted p'' l'' x'' old new db dx _ node_list (cut_given false p' l' x' k p'' l'' x'' d _ (or_neither _ _ (not_too_long old s) (not_too_long new t))) f a b
 

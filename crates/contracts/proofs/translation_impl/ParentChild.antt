@@ -1,4 +1,5 @@
 -- TranslationImpl, lines 532 to 551: whether a child's table holds what a parent's slot leads to.
+use Rattle.std.specs.Prelude.{Ok, Err}
 use mathlib.Core.Path.{◌≡◌, refl, ◌∙◌}
 use mathlib.Core.Bool.{true, false, not, ◌&&◌, ◌||◌}
 use mathlib.Core.List.{List, [], ◌∷◌, ◌++◌}
@@ -7,11 +8,10 @@ use Prim.Native.Nat.{ℕ, ◌≤◌, ◌<◌}
 use borrow.Author.Tests.{le-ltb, lt-ltb}
 use lib.ListN.{length}
 use Rattle.model.specs.declared.Refusal.TheVariants.{Shape, Unsorted, EmptyPrefix, NoSuchSlot, TooLong}
-use Rattle.model.specs.declared.Decided.TheVariants as decided
 use Rattle.model.specs.records.Record.{records, elements, edges, encode_all, encode_edges}
 use Rattle.model.specs.tables.Tables.{PivotTable, EdgeTable, max_pivots, all, short_element, short_edge, IsStrictlySorted, WFPivots, WFEdges}
 use Rattle.model.specs.translation.ParentChild.{slot_bounds, ParentKeysInChildRange}
-use Rattle.model.specs.calls.Refusals.{Cause, ◌⇒◌, outcome, first, yes_or_no}
+use Rattle.model.specs.calls.Refusals.{Cause, ◌⇒◌, outcome, first}
 use Rattle.model.specs.calls.TableCalls.{not_pivot_count, not_edge_count, pivots_read, edges_read, pivot_causes}
 use Rattle.model.specs.calls.ParentChildCalls.{three_tables_causes, parent_child_causes, parent_child_answer}
 use Rattle.model.proofs.calls.Refusals.{or_left, or_right, or_neither, not_holds, not_fails, none_here, none_before, none_after}
@@ -28,11 +28,11 @@ module _ (p e c : List ℕ) (slot : ℕ) where
   abbrev pivots : List Cause
   pivots = pivot_causes (not_edge_count p e || not_pivot_count c) (not (edges_read (records e)) || not (pivots_read (records c))) p
 
-  refuses : (n : ℕ) → Refused n (three_tables_causes p e c) → Refuses decided.Refused n (parent_child_answer p e c slot)
+  refuses : (n : ℕ) → Refused n (three_tables_causes p e c) → Refuses Err n (parent_child_answer p e c slot)
   refuses n h = call_refuses _ _ n (parent_child_causes p e c slot) (more_refused n (three_tables_causes p e c) _ h)
 
   -- requires WFPivots(parentpivots)
-  pub translation_impl_534 : WFPivots (elements p) ≡ false → Refuses decided.Refused 3 (parent_child_answer p e c slot)
+  pub translation_impl_534 : WFPivots (elements p) ≡ false → Refuses Err 3 (parent_child_answer p e c slot)
   translation_impl_534 h = refuses 3 (more_refused 3 pivots _ (pivots_refused _ _ p h))
 
   -- and with 3 of the child's
@@ -48,35 +48,35 @@ module _ (p e c : List ℕ) (slot : ℕ) where
       causes_wf false false c (unfold pivot_causes outcome in rw (s, r, t))
 
   -- requires WFPivots(childpivots)
-  pub translation_impl_535 : WFPivots (elements c) ≡ false → Refuses decided.Refused 3 (parent_child_answer p e c slot)
+  pub translation_impl_535 : WFPivots (elements c) ≡ false → Refuses Err 3 (parent_child_answer p e c slot)
   unfolding pivot_causes
   translation_impl_535 h =
       refuses 3 (more_refused 3 sorted _ (clause_refused 3 sorted (WFPivots (elements c)) refl child_wf h))
 
   -- requires WFEdges(parentedges, parentpivots)
-  pub translation_impl_536 : WFEdges (edges e) (elements p) ≡ false → RefusesAt decided.Refused (parent_child_causes p e c slot) 4 EmptyPrefix (parent_child_answer p e c slot)
+  pub translation_impl_536 : WFEdges (edges e) (elements p) ≡ false → RefusesAt Err (parent_child_causes p e c slot) 4 EmptyPrefix (parent_child_answer p e c slot)
   unfolding pivot_causes
   translation_impl_536 h = refuses_at _ _ (parent_child_causes p e c slot) 4 _ _ _ refl (not_fails _ h)
 
   -- requires 0 <= slot as int < |parentedges|
-  pub translation_impl_537 : length (edges e) ≤ slot → RefusesAt decided.Refused (parent_child_causes p e c slot) 5 NoSuchSlot (parent_child_answer p e c slot)
+  pub translation_impl_537 : length (edges e) ≤ slot → RefusesAt Err (parent_child_causes p e c slot) 5 NoSuchSlot (parent_child_answer p e c slot)
   unfolding pivot_causes
   translation_impl_537 h = refuses_at _ _ (parent_child_causes p e c slot) 5 _ _ _ refl (not_fails _ (le-ltb slot (length (edges e)) h))
 
   -- requires |parentpivots| < Uint64UpperBound()
-  pub translation_impl_538 : max_pivots < length (elements p) → RefusesAt decided.Refused (parent_child_causes p e c slot) 0 Shape (parent_child_answer p e c slot)
+  pub translation_impl_538 : max_pivots < length (elements p) → RefusesAt Err (parent_child_causes p e c slot) 0 Shape (parent_child_answer p e c slot)
   unfolding pivot_causes
   translation_impl_538 h = refuses_at _ _ (parent_child_causes p e c slot) 0 _ _ _ refl (or_right (not_edge_count p e || not_pivot_count c) _ (too_many p h))
 
   -- requires |childpivots| < 0x4000_0000_0000_0000
-  pub translation_impl_539 : max_pivots < length (elements c) → RefusesAt decided.Refused (parent_child_causes p e c slot) 0 Shape (parent_child_answer p e c slot)
+  pub translation_impl_539 : max_pivots < length (elements c) → RefusesAt Err (parent_child_causes p e c slot) 0 Shape (parent_child_answer p e c slot)
   unfolding pivot_causes
   translation_impl_539 h = refuses_at _ _ (parent_child_causes p e c slot) 0 _ _ _ refl (or_left _ _ (or_right (not_edge_count p e) _ (too_many c h)))
 
   -- ensures b == ParentKeysInChildRange(parentpivots, parentedges, childpivots, slot as int)
   -- where a bound of the slot, translated, passes 64 bytes, the question is refused
   pub translation_impl_540b : (short_element (slot_bounds (elements p) (edges e) slot).left && short_element (slot_bounds (elements p) (edges e) slot).right) ≡ false
-      → RefusesAt decided.Refused (parent_child_causes p e c slot) 6 TooLong (parent_child_answer p e c slot)
+      → RefusesAt Err (parent_child_causes p e c slot) 6 TooLong (parent_child_answer p e c slot)
   unfolding pivot_causes
   translation_impl_540b h = refuses_at _ _ (parent_child_causes p e c slot) 6 _ _ _ refl (not_fails _ h)
 
@@ -119,6 +119,6 @@ module _ (parent : PivotTable) (et : EdgeTable) (child : PivotTable) (slot : ℕ
   question_lent = go_on some none (three_tables_causes p e c) _ tables_lent ∙ rw (pivots_read_lem parent w, edges_read_lem parent et w m x s, lt-ltb slot (length et) i, l, r)
 
   -- ensures b == ParentKeysInChildRange(parentpivots, parentedges, childpivots, slot as int)
-  pub translation_impl_540 : parent_child_answer (encode_all parent) (encode_edges et) (encode_all child) slot ≡ yes_or_no (ParentKeysInChildRange parent et child slot)
+  pub translation_impl_540 : parent_child_answer (encode_all parent) (encode_edges et) (encode_all child) slot ≡ Ok (ParentKeysInChildRange parent et child slot)
   translation_impl_540 =
       accepted _ _ (parent_child_causes p e c slot) question_lent ∙ rw (pivots_read_lem parent w, edges_read_lem parent et w m x s, pivots_read_lem child v)

@@ -1,4 +1,5 @@
 -- TranslationImpl, lines 243 to 283: a table's pivots under another prefix, and its edges filled.
+use Rattle.std.specs.Prelude.{Ok, Err}
 use mathlib.Core.Path.{◌≡◌, refl, sym, ◌∙◌}
 use mathlib.Core.Bool.{true, false, ◌||◌, true≢false}
 use mathlib.Core.List.{List}
@@ -10,7 +11,6 @@ use borrow.Author.Tests.{le-ltb, ne_eqb}
 use lib.ListN.{length}
 use lib.Seq.{length-take-le, get_or-take}
 use Rattle.model.specs.declared.Refusal.TheVariants.{Shape, Malformed, EmptyPrefix, NotPrefix, TooLong, NotBelow}
-use Rattle.model.specs.declared.Answer.TheVariants as answers
 use Rattle.model.specs.keys.Key.{Key, max_len, too_long, IsPrefix}
 use Rattle.model.specs.keys.Order.{Element, max, lt}
 use Rattle.model.specs.records.Record.{record_size, reading, element, element_reading, encode, elements, edges, encode_all, encode_edges}
@@ -51,33 +51,33 @@ module _ (pt : PivotTable) (p : Key) where
 -- lent any bytes
 module _ (v : List ℕ) (p q : Key) (n d : List ℕ) where
   -- requires |pt| < Uint64UpperBound()
-  pub translation_impl_244 : max_pivots < length (elements v) → RefusesAt answers.Refused (pivots_causes v p q n d) 0 Shape (pivots_answer v p q n d)
+  pub translation_impl_244 : max_pivots < length (elements v) → RefusesAt Err (pivots_causes v p q n d) 0 Shape (pivots_answer v p q n d)
   unfolding pivot_causes
   translation_impl_244 h = refuses_at _ _ (pivots_causes v p q n d) 0 _ _ _ refl (or_right (not_record n) _ (too_many v h))
 
   -- requires WFPivots(pt)
-  pub translation_impl_245 : WFPivots (elements v) ≡ false → Refuses answers.Refused 3 (pivots_answer v p q n d)
+  pub translation_impl_245 : WFPivots (elements v) ≡ false → Refuses Err 3 (pivots_answer v p q n d)
   translation_impl_245 h = call_refuses _ _ 3 (pivots_causes v p q n d) (more_refused 3 (pivot_causes (not_record n) (too_long p || too_long q || not_element n) v) _ (pivots_refused _ _ v h))
 
   -- requires forall i | 0 <= i < NumBuckets(pt) :: IsPrefix(prefix, pt[i].e)
-  pub translation_impl_246 : (i : ℕ) → i < NumBuckets (elements v) → IsPrefix p (GetKey (elements v) i) ≡ false → RefusesAt answers.Refused (pivots_causes v p q n d) 3 NotPrefix (pivots_answer v p q n d)
+  pub translation_impl_246 : (i : ℕ) → i < NumBuckets (elements v) → IsPrefix p (GetKey (elements v) i) ≡ false → RefusesAt Err (pivots_causes v p q n d) 3 NotPrefix (pivots_answer v p q n d)
   unfolding pivot_causes
   translation_impl_246 i l h = refuses_at _ _ (pivots_causes v p q n d) 3 _ _ _ refl (not_fails _ (refuted (all (begun p) (but_last (elements v))) (λ b. true≢false (sym (begun_at (elements v) p b i l) ∙ h))))
 
   -- requires end.Element? ==> ElementIsKey(end)
   -- the record isn't read as an element; one that is has at most 64 bytes
-  pub translation_impl_247 : element_reading (reading n) ≡ false → RefusesAt answers.Refused (pivots_causes v p q n d) 1 Malformed (pivots_answer v p q n d)
+  pub translation_impl_247 : element_reading (reading n) ≡ false → RefusesAt Err (pivots_causes v p q n d) 1 Malformed (pivots_answer v p q n d)
   unfolding pivot_causes
   translation_impl_247 h = refuses_at _ _ (pivots_causes v p q n d) 1 _ _ _ refl (or_left _ _ (or_right (too_long p || too_long q) _ (not_fails _ h)))
 
   -- requires Keyspace.lt(TranslateElement(pt[|pt|-2], prefix, newPrefix), end)
-  pub translation_impl_248 : lt (TranslateElement p q (pivot_at (elements v) (length (elements v) - 2))) (element n) ≡ false → RefusesAt answers.Refused (pivots_causes v p q n d) 5 NotBelow (pivots_answer v p q n d)
+  pub translation_impl_248 : lt (TranslateElement p q (pivot_at (elements v) (length (elements v) - 2))) (element n) ≡ false → RefusesAt Err (pivots_causes v p q n d) 5 NotBelow (pivots_answer v p q n d)
   unfolding pivot_causes
   translation_impl_248 h = refuses_at _ _ (pivots_causes v p q n d) 5 _ _ _ refl (let i : NumBuckets (elements v) - 1 ≡ length (elements v) - 2 = omega arith in rw (i, h))
 
   -- ensures pt' == TranslatePivots(pt, prefix, newPrefix, end, 0)
   -- where one of these pivots passes 64 bytes, the call is refused
-  pub translation_impl_249b : all short_element (TranslatePivots (elements v) p q (element n)) ≡ false → RefusesAt answers.Refused (pivots_causes v p q n d) 4 TooLong (pivots_answer v p q n d)
+  pub translation_impl_249b : all short_element (TranslatePivots (elements v) p q (element n)) ≡ false → RefusesAt Err (pivots_causes v p q n d) 4 TooLong (pivots_answer v p q n d)
   translation_impl_249b = new_pivots_refused v p q n d
 
 -- lent the records of pivots and of an end
@@ -96,7 +96,7 @@ module _ (pt : PivotTable) (w : WFPivots pt ≡ true) (m : length pt ≤ max_piv
       ∙ rw (pivots_read_lem pt w, o.stands, begun_all pt p f, t, i, g, c, le-ltb _ _ room)
 
   -- ensures pt' == TranslatePivots(pt, prefix, newPrefix, end, 0)
-  pub translation_impl_249 : (pivots_answer (encode_all pt) p q (encode end) d ≡ answers.Value (length (TranslatePivotsFrom pt p q end 0)))
+  pub translation_impl_249 : (pivots_answer (encode_all pt) p q (encode end) d ≡ Ok (length (TranslatePivotsFrom pt p q end 0)))
       × (pivots_leaves (encode_all pt) p q (encode end) d ≡ over (encode_all (TranslatePivotsFrom pt p q end 0)) d)
   translation_impl_249 =
       let c = pivots_causes (encode_all pt) p q (encode end) d in
@@ -119,16 +119,16 @@ few p e h = ⊎_elim less (λ m. or_right (not_edge_count p e) _ (too_many p m))
 module _ (p e d : List ℕ) where
   -- requires |et| < Uint64UpperBound()
   -- the limit is 63 edges, one fewer than pivots
-  pub translation_impl_264 : max_pivots ≤ length (edges e) → RefusesAt answers.Refused (edges_causes p e d) 0 Shape (edges_answer p e d)
+  pub translation_impl_264 : max_pivots ≤ length (edges e) → RefusesAt Err (edges_causes p e d) 0 Shape (edges_answer p e d)
   unfolding table_causes pivot_causes
   translation_impl_264 h = refuses_at _ _ (edges_causes p e d) 0 _ _ _ refl (few p e h)
 
   -- requires WFPivots(pt)
-  pub translation_impl_265 : WFPivots (elements p) ≡ false → Refuses answers.Refused 3 (edges_answer p e d)
+  pub translation_impl_265 : WFPivots (elements p) ≡ false → Refuses Err 3 (edges_answer p e d)
   translation_impl_265 h = call_refuses _ _ 3 (edges_causes p e d) (more_refused 3 (table_causes false false p e) _ (table_pivots_refused false false p e h))
 
   -- requires WFEdges(et, pt)
-  pub translation_impl_266 : WFEdges (edges e) (elements p) ≡ false → RefusesAt answers.Refused (edges_causes p e d) 3 EmptyPrefix (edges_answer p e d)
+  pub translation_impl_266 : WFEdges (edges e) (elements p) ≡ false → RefusesAt Err (edges_causes p e d) 3 EmptyPrefix (edges_answer p e d)
   unfolding table_causes pivot_causes
   translation_impl_266 h = refuses_at _ _ (edges_causes p e d) 3 _ _ _ refl (not_fails _ h)
 
@@ -142,7 +142,7 @@ module _ (pt : PivotTable) (et : EdgeTable) (w : WFPivots pt ≡ true) (m : leng
       ∙ rw (pivots_read_lem pt w, edges_read_lem pt et w m x s, edges_count et pt (edges_say et pt x).count, le-ltb _ _ room)
 
   -- ensures et' == TranslateEdges(et, pt, 0)
-  pub translation_impl_267 : (edges_answer (encode_all pt) (encode_edges et) d ≡ answers.Value (length (TranslateEdgesFrom et pt 0)))
+  pub translation_impl_267 : (edges_answer (encode_all pt) (encode_edges et) d ≡ Ok (length (TranslateEdgesFrom et pt 0)))
       × (edges_leaves (encode_all pt) (encode_edges et) d ≡ over (encode_edges (TranslateEdgesFrom et pt 0)) d)
   translation_impl_267 =
       let c = edges_causes (encode_all pt) (encode_edges et) d in

@@ -1,4 +1,5 @@
 -- TranslationImpl, lines 147 to 197: the translation of a key in a table, and composing prefix pairs.
+use Rattle.std.specs.Prelude.{Ok, Err}
 use mathlib.Core.Path.{◌≡◌, refl, ◌∙◌}
 use mathlib.Core.Bool.{true, false}
 use mathlib.Core.List.{List}
@@ -7,7 +8,6 @@ use Prim.Native.Nat.{ℕ, ◌≤◌, ◌<◌}
 use borrow.Author.Tests.{lt-ltb}
 use lib.ListN.{length}
 use Rattle.model.specs.declared.Refusal.TheVariants.{Shape, EmptyPrefix, OutOfRange, NotPrefix, TooLong}
-use Rattle.model.specs.declared.Answer.TheVariants as answers
 use Rattle.model.specs.keys.Key.{Key, max_len, too_long}
 use Rattle.model.specs.records.Record.{elements, edges, encode_all, encode_edges}
 use Rattle.model.specs.tables.Tables.{PivotTable, EdgeTable, max_pivots, all, short_edge, WFPivots, WFEdges, BoundedKey}
@@ -31,47 +31,47 @@ module _ (p e : List ℕ) (k : Key) where
   bad_pivots h = more_refused 3 (table_causes false (too_long k) p e) _ (table_pivots_refused false (too_long k) p e h)
 
   -- requires |pt| < 0x4000_0000_0000_0000
-  pub translation_impl_148 : max_pivots < length (elements p) → RefusesAt answers.Refused (translate_causes p e k) 0 Shape (translate_answer p e k)
+  pub translation_impl_148 : max_pivots < length (elements p) → RefusesAt Err (translate_causes p e k) 0 Shape (translate_answer p e k)
   unfolding table_causes pivot_causes
   translation_impl_148 h = refuses_at _ _ (translate_causes p e k) 0 _ _ _ refl (or_right (not_edge_count p e) _ (too_many p h))
 
   -- requires WFPivots(pt)
-  pub translation_impl_149 : WFPivots (elements p) ≡ false → Refuses answers.Refused 3 (translate_answer p e k)
+  pub translation_impl_149 : WFPivots (elements p) ≡ false → Refuses Err 3 (translate_answer p e k)
   translation_impl_149 h = call_refuses _ _ 3 _ (bad_pivots h)
 
   -- requires BoundedKey(pt, key)
-  pub translation_impl_150 : BoundedKey (elements p) k ≡ false → RefusesAt answers.Refused (translate_causes p e k) 4 OutOfRange (translate_answer p e k)
+  pub translation_impl_150 : BoundedKey (elements p) k ≡ false → RefusesAt Err (translate_causes p e k) 4 OutOfRange (translate_answer p e k)
   unfolding table_causes pivot_causes
   translation_impl_150 h = refuses_at _ _ (translate_causes p e k) 4 _ _ _ refl (not_fails _ h)
 
   -- requires WFEdges(et, pt)
-  pub translation_impl_151 : WFEdges (edges e) (elements p) ≡ false → RefusesAt answers.Refused (translate_causes p e k) 3 EmptyPrefix (translate_answer p e k)
+  pub translation_impl_151 : WFEdges (edges e) (elements p) ≡ false → RefusesAt Err (translate_causes p e k) 3 EmptyPrefix (translate_answer p e k)
   unfolding table_causes pivot_causes
   translation_impl_151 h = refuses_at _ _ (translate_causes p e k) 3 _ _ _ refl (not_fails _ h)
 
   module _ (d : List ℕ) where
     -- requires |pt| < 0x4000_0000_0000_0000
-    pub translation_impl_165 : max_pivots < length (elements p) → RefusesAt answers.Refused (translate_key_causes p e k d) 0 Shape (translate_key_answer p e k d)
+    pub translation_impl_165 : max_pivots < length (elements p) → RefusesAt Err (translate_key_causes p e k d) 0 Shape (translate_key_answer p e k d)
     unfolding table_causes pivot_causes
     translation_impl_165 h = refuses_at _ _ (translate_key_causes p e k d) 0 _ _ _ refl (or_right (not_edge_count p e) _ (too_many p h))
 
     -- requires WFPivots(pt)
-    pub translation_impl_166 : WFPivots (elements p) ≡ false → Refuses answers.Refused 3 (translate_key_answer p e k d)
+    pub translation_impl_166 : WFPivots (elements p) ≡ false → Refuses Err 3 (translate_key_answer p e k d)
     translation_impl_166 h = call_refuses _ _ 3 _ (more_refused 3 (translate_causes p e k) _ (bad_pivots h))
 
     -- requires BoundedKey(pt, key)
-    pub translation_impl_167 : BoundedKey (elements p) k ≡ false → RefusesAt answers.Refused (translate_key_causes p e k d) 4 OutOfRange (translate_key_answer p e k d)
+    pub translation_impl_167 : BoundedKey (elements p) k ≡ false → RefusesAt Err (translate_key_causes p e k d) 4 OutOfRange (translate_key_answer p e k d)
     unfolding table_causes pivot_causes
     translation_impl_167 h = refuses_at _ _ (translate_key_causes p e k d) 4 _ _ _ refl (not_fails _ h)
 
     -- requires WFEdges(et, pt)
-    pub translation_impl_168 : WFEdges (edges e) (elements p) ≡ false → RefusesAt answers.Refused (translate_key_causes p e k d) 3 EmptyPrefix (translate_key_answer p e k d)
+    pub translation_impl_168 : WFEdges (edges e) (elements p) ≡ false → RefusesAt Err (translate_key_causes p e k d) 3 EmptyPrefix (translate_key_answer p e k d)
     unfolding table_causes pivot_causes
     translation_impl_168 h = refuses_at _ _ (translate_key_causes p e k d) 3 _ _ _ refl (not_fails _ h)
 
     -- ensures k == TranslateKey(pt, et, key)
     -- where it passes 64 bytes, the call is refused
-    pub translation_impl_170b : max_len < length (TranslateKey (elements p) (edges e) k) → RefusesAt answers.Refused (translate_key_causes p e k d) 5 TooLong (translate_key_answer p e k d)
+    pub translation_impl_170b : max_len < length (TranslateKey (elements p) (edges e) k) → RefusesAt Err (translate_key_causes p e k d) 5 TooLong (translate_key_answer p e k d)
     unfolding table_causes pivot_causes
     translation_impl_170b h = refuses_at _ _ (translate_key_causes p e k d) 5 _ _ _ refl (lt-ltb max_len (length (TranslateKey (elements p) (edges e) k)) h)
 
@@ -83,7 +83,7 @@ module _ (pt : PivotTable) (et : EdgeTable) (w : WFPivots pt ≡ true) (m : leng
   translate_lent = rw (pivots_read_lem pt w) (edge_slot_lent pt et w m x s k (BoundedKey pt k) l b)
 
   -- ensures pset == Translate(pt, et, key)
-  pub translation_impl_153 : (translate_answer (encode_all pt) (encode_edges et) k ≡ answers.Value (there_number (Translate pt et k)))
+  pub translation_impl_153 : (translate_answer (encode_all pt) (encode_edges et) k ≡ Ok (there_number (Translate pt et k)))
       × (translate_pair (encode_all pt) (encode_edges et) k ≡ state_of (Translate pt et k))
   translation_impl_153 =
       let c = translate_causes (encode_all pt) (encode_edges et) k in
@@ -91,7 +91,7 @@ module _ (pt : PivotTable) (et : EdgeTable) (w : WFPivots pt ≡ true) (m : leng
 
   -- ensures k == TranslateKey(pt, et, key)
   pub translation_impl_170 : (d : List ℕ) → length (TranslateKey pt et k) ≤ max_len → length (TranslateKey pt et k) ≤ length d
-      → (translate_key_answer (encode_all pt) (encode_edges et) k d ≡ answers.Value (length (TranslateKey pt et k)))
+      → (translate_key_answer (encode_all pt) (encode_edges et) k d ≡ Ok (length (TranslateKey pt et k)))
       × (translate_key_leaves (encode_all pt) (encode_edges et) k d ≡ over (TranslateKey pt et k) d)
   translation_impl_170 d t r =
       let o = translate_causes (encode_all pt) (encode_edges et) k in
@@ -102,12 +102,12 @@ module _ (pt : PivotTable) (et : EdgeTable) (w : WFPivots pt ≡ true) (m : leng
 -- ---- composing
 
 -- requires ComposePrefixSet.requires(a, b)
-pub translation_impl_182 : (a b : PairState) → Composable (pair_of a) (pair_of b) ≡ false → RefusesAt answers.Refused (compose_causes a b) 1 NotPrefix (compose_answer a b)
+pub translation_impl_182 : (a b : PairState) → Composable (pair_of a) (pair_of b) ≡ false → RefusesAt Err (compose_causes a b) 1 NotPrefix (compose_answer a b)
 translation_impl_182 a b h = refuses_at _ _ (compose_causes a b) 1 _ _ _ refl (not_fails _ h)
 
 -- ensures c == ComposePrefixSet(a, b)
 pub translation_impl_183 : (a b : Option PrefixSet) → long_pair a ≡ false → long_pair b ≡ false → Composable a b ≡ true → long_pair (ComposePrefixSet a b) ≡ false
-    → (compose_answer (state_of a) (state_of b) ≡ answers.Value (there_number (ComposePrefixSet a b))) × (compose_pair (state_of a) (state_of b) ≡ state_of (ComposePrefixSet a b))
+    → (compose_answer (state_of a) (state_of b) ≡ Ok (there_number (ComposePrefixSet a b))) × (compose_pair (state_of a) (state_of b) ≡ state_of (ComposePrefixSet a b))
 translation_impl_183 a b f g h s =
     let n : first (compose_causes (state_of a) (state_of b)) ≡ none = unfold outcome in rw (state_wrong a, state_wrong b, state_pair a, state_pair b, f, g, h, s) in
     let c = compose_causes (state_of a) (state_of b) in
@@ -115,5 +115,5 @@ translation_impl_183 a b f g h s =
 
 -- ensures c == ComposePrefixSet(a, b)
 -- where one of its prefixes passes 64 bytes, the call is refused
-pub translation_impl_183b : (a b : PairState) → long_pair (ComposePrefixSet (pair_of a) (pair_of b)) ≡ true → RefusesAt answers.Refused (compose_causes a b) 2 TooLong (compose_answer a b)
+pub translation_impl_183b : (a b : PairState) → long_pair (ComposePrefixSet (pair_of a) (pair_of b)) ≡ true → RefusesAt Err (compose_causes a b) 2 TooLong (compose_answer a b)
 translation_impl_183b a b h = refuses_at _ _ (compose_causes a b) 2 _ _ _ refl (h)

@@ -1,4 +1,5 @@
 -- TranslationLib, lines 154 to 194: the pair of a key's slot, and pairs applied and composed.
+use Rattle.std.specs.Prelude.{Ok, Err}
 use mathlib.Core.Path.{◌≡◌, refl, ◌∙◌}
 use mathlib.Core.Bool.{Bool, true, false, ◌||◌, false≢true, or_comm}
 use mathlib.Core.List.{List}
@@ -8,7 +9,6 @@ use native.Mathlib.Omega.{arith}
 use lib.ListN.{length}
 use Rattle.model.specs.declared.Refusal.TheVariants.{NotPrefix}
 use Rattle.model.specs.declared.Refusal.{Refusal}
-use Rattle.model.specs.declared.Answer.TheVariants as answers
 use Rattle.model.specs.keys.Key.{Key, Bytes, max_len, IsPrefix}
 use Rattle.model.specs.tables.Tables.{PivotTable, EdgeTable, WFPivots, BoundedKey}
 use Rattle.model.specs.translation.PrefixSet.{PrefixSet, RevPrefixSet, Begins, ApplyPrefixSet, Composable, long_pair}
@@ -52,12 +52,12 @@ module _ (pset : Option PrefixSet) (k : Key) (d : List ℕ) (p : long_pair pset 
 
   -- function method ApplyPrefixSet(pset: Option<PrefixSet>, key: Key) : (key': Key)
   -- the call, lent the pair, the key and room, answers the changed key's length and leaves its bytes
-  pub translation_lib_182 : (apply_answer (state_of pset) k d ≡ answers.Value (length (ApplyPrefixSet pset k))) × (apply_leaves (state_of pset) k d ≡ over (ApplyPrefixSet pset k) d)
-  translation_lib_182 = (applied answers.Refused _ ∙ rw (state_pair pset), applied (λ (_ : Refusal). d) _ ∙ rw (state_pair pset))
+  pub translation_lib_182 : (apply_answer (state_of pset) k d ≡ Ok (length (ApplyPrefixSet pset k))) × (apply_leaves (state_of pset) k d ≡ over (ApplyPrefixSet pset k) d)
+  translation_lib_182 = (applied Err _ ∙ rw (state_pair pset), applied (λ (_ : Refusal). d) _ ∙ rw (state_pair pset))
 
 -- requires pset.Some? ==> IsPrefix(pset.value.prefix, key)
 pub translation_lib_183 : (s : PairState) (k : Key) (d : List ℕ) (pset : PrefixSet) → pair_of s ≡ some pset → IsPrefix pset.prefix k ≡ false
-    → RefusesAt answers.Refused (apply_causes s k d) 1 NotPrefix (apply_answer s k d)
+    → RefusesAt Err (apply_causes s k d) 1 NotPrefix (apply_answer s k d)
 translation_lib_183 s k d pset e h = refuses_at _ _ (apply_causes s k d) 1 _ _ _ refl (not_fails (Begins (pair_of s) k) (rw e (unfold Begins in h)))
 
 -- ensures pset.Some? ==> IsPrefix(pset.value.newPrefix, key')
@@ -86,5 +86,5 @@ translation_lib_193 a b h = (
 
 -- requires a.Some? && b.Some? ==> ( IsPrefix(a.value.prefix, b.value.prefix) || IsPrefix(b.value.prefix, a.value.prefix))
 pub translation_lib_194 : (s t : PairState) (a b : PrefixSet) → pair_of s ≡ some a → pair_of t ≡ some b
-    → (IsPrefix a.prefix b.prefix || IsPrefix b.prefix a.prefix) ≡ false → RefusesAt answers.Refused (compose_causes s t) 1 NotPrefix (compose_answer s t)
+    → (IsPrefix a.prefix b.prefix || IsPrefix b.prefix a.prefix) ≡ false → RefusesAt Err (compose_causes s t) 1 NotPrefix (compose_answer s t)
 translation_lib_194 s t a b e f h = refuses_at _ _ (compose_causes s t) 1 _ _ _ refl (not_fails (Composable (pair_of s) (pair_of t)) (rw (e, f) (unfold Composable in h)))

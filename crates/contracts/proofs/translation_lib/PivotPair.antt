@@ -1,4 +1,5 @@
 -- TranslationLib, lines 132, 133, 247 to 277 and 413: an element, a range and a slot under another prefix, and parent and child.
+use Rattle.std.specs.Prelude.{Err}
 use mathlib.Core.Path.{◌≡◌, refl, sym, ◌∙◌}
 use mathlib.Core.Bool.{true, false, false≢true}
 use mathlib.Core.List.{List}
@@ -7,7 +8,6 @@ use native.Mathlib.Omega.{arith}
 use lib.Dec.{leb}
 use lib.ListN.{length}
 use Rattle.model.specs.declared.Refusal.TheVariants.{TooLong}
-use Rattle.model.specs.declared.Answer.TheVariants as answers
 use Rattle.model.specs.keys.Key.{Key, Bytes, max_len, IsPrefix}
 use Rattle.model.specs.keys.Order.{Element, key, max, is_key, lt}
 use Rattle.model.specs.records.Record.{edge, no_edge}
@@ -37,7 +37,7 @@ module _ (p q k : Key) where
   -- ensures ElementIsKey(e')
   -- it holds exactly where the produced length is at most 64; past that the call that translates a range from k answers 8, unless a cause before it applies
   pub translation_lib_247 : (ElementIsKey (TranslateElement p q (key k)) ≡ leb (length q + (length k - length p)) max_len)
-      × ((r d : List ℕ) → ElementIsKey (TranslateElement p q (key k)) ≡ false → RefusesAt answers.Refused (pivot_pair_causes k r p q d) 3 TooLong (pivot_pair_answer k r p q d))
+      × ((r d : List ℕ) → ElementIsKey (TranslateElement p q (key k)) ≡ false → RefusesAt Err (pivot_pair_causes k r p q d) 3 TooLong (pivot_pair_answer k r p q d))
   unfolding TranslateElement TranslatePivotPairInternal
   translation_lib_247 = (element_short p q k, λ r d. left_refused k r p q d)
 
@@ -109,7 +109,7 @@ translation_lib_274 l right p q = pair_rises p q l right
 -- as at line 247
 pub translation_lib_275 : (l : Key) (right : Element) (p q : Key)
     → (ElementIsKey (TranslatePivotPairInternal (key l) right p q).left ≡ leb (length q + (length l - length p)) max_len)
-    × ((r d : List ℕ) → ElementIsKey (new_bounds l r p q).left ≡ false → RefusesAt answers.Refused (pivot_pair_causes l r p q d) 3 TooLong (pivot_pair_answer l r p q d))
+    × ((r d : List ℕ) → ElementIsKey (new_bounds l r p q).left ≡ false → RefusesAt Err (pivot_pair_causes l r p q d) 3 TooLong (pivot_pair_answer l r p q d))
 unfolding TranslatePivotPairInternal
 translation_lib_275 l right p q = translation_lib_247 p q l
 
@@ -119,7 +119,7 @@ pub translation_lib_276 : (l : Key) (right : Element) (p q : Key)
     → (Lacks p right → length q ≤ max_len → short_element (TranslatePivotPairInternal (key l) right p q).right ≡ true)
     × ((k : Key) → right ≡ key k → IsPrefix p k ≡ true
     → short_element (TranslatePivotPairInternal (key l) right p q).right ≡ leb (length q + (length k - length p)) max_len)
-    × ((r d : List ℕ) → short_element (new_bounds l r p q).right ≡ false → RefusesAt answers.Refused (pivot_pair_causes l r p q d) 3 TooLong (pivot_pair_answer l r p q d))
+    × ((r d : List ℕ) → short_element (new_bounds l r p q).right ≡ false → RefusesAt Err (pivot_pair_causes l r p q d) 3 TooLong (pivot_pair_answer l r p q d))
 unfolding TranslatePivotPairInternal translate_right
 translation_lib_276 l right p q = (right_short p q right, λ k e h. rw (e, h) (element_short p q k), λ r d. right_refused l r p q d)
 

@@ -1,4 +1,5 @@
 -- TranslationLib, lines 297 to 326: pivots and edges under another prefix, from every place idx on.
+use Rattle.std.specs.Prelude.{Ok, Err}
 use mathlib.Core.Path.{◌≡◌, refl, sym, ap, ◌∙◌}
 use mathlib.Core.Bool.{true, false}
 use mathlib.Core.List.{List, [], ◌∷◌}
@@ -9,8 +10,6 @@ use native.Mathlib.Omega.{arith}
 use lib.ListN.{length, take, drop, length-drop, drop_of_length-le}
 use lib.Seq.{drop-cons, get_or-drop}
 use Rattle.model.specs.declared.Refusal.TheVariants.{TooLong}
-use Rattle.model.specs.declared.Answer.TheVariants as answers
-use Rattle.model.specs.declared.Decided.TheVariants as decided
 use Rattle.model.specs.keys.Key.{Key, IsPrefix}
 use Rattle.model.specs.keys.Order.{Element, max, is_key, lt}
 use Rattle.model.specs.records.Record.{Edge, edge, no_edge, record_size, elements}
@@ -99,15 +98,15 @@ module _ (pt : PivotTable) (p q : Key) (end : Element) (idx : ℕ) (h : idx < Nu
 -- ensures WFPivots(pt')
 -- of the call: what it leaves where it is accepted are those pivots, well formed, and they pass the check; past 64 bytes it answers 8, unless a cause before it applies
 pub translation_lib_303b : (v : List ℕ) (p q : Key) (n d : List ℕ)
-    → ((m : ℕ) → pivots_answer v p q n d ≡ answers.Value m
+    → ((m : ℕ) → pivots_answer v p q n d ≡ Ok m
     → (elements (take (m * record_size) (pivots_leaves v p q n d)) ≡ new_pivots v p q n) × (WFPivots (new_pivots v p q n) ≡ true)
-    × (wf_pivots_answer (take (m * record_size) (pivots_leaves v p q n d)) ≡ decided.Yes))
-    × (ElementsAreKeys (new_pivots v p q n) ≡ false → RefusesAt answers.Refused (pivots_causes v p q n d) 4 TooLong (pivots_answer v p q n d))
+    × (wf_pivots_answer (take (m * record_size) (pivots_leaves v p q n d)) ≡ Ok true))
+    × (ElementsAreKeys (new_pivots v p q n) ≡ false → RefusesAt Err (pivots_causes v p q n d) 4 TooLong (pivots_answer v p q n d))
 translation_lib_303b v p q n d = (
   λ m h.
       let c = pivots_pass v p q n d m h in
       let r = pivots_read_lem v p q n d m h in
-      (r, rw r at (causes_wf false false _ c), accepted decided.Refused decided.Yes _ c),
+      (r, rw r at (causes_wf false false _ c), accepted Err (Ok true) _ c),
   new_pivots_refused v p q n d,
 )
 

@@ -1,11 +1,7 @@
 use Rattle.model.specs.buckets.Bucket.{entries, entries_rise}
 use lib.ListN.{drop}
 use mathlib.Core.Path.{◌≡◌}
-use Prim.Native.Nat.{◌-◌, ◌≤◌}
 use Rattle.entry_order.proofs.entries_rise.Given as goal
 
 abbrev pub invariant-loop-i : goal.invariant-loop-i
-invariant-loop-i l = (l.i ≤ l.count) × (entries_rise (entries l.bucket) ≡ entries_rise (drop l.i (entries l.bucket)))
-
-abbrev pub decreases-loop-i : goal.decreases-loop-i
-decreases-loop-i l = l.count - l.i
+invariant-loop-i l = entries_rise (entries l.bucket) ≡ entries_rise (drop l.i (entries l.bucket))

@@ -1,5 +1,4 @@
 use mathlib.Core.Path.{◌≡◌}
-use Prim.Native.Nat.{◌-◌, ◌≤◌}
 use lib.ListN.{length, take}
 use Rattle.model.specs.records.Record.{encode_edges}
 use Rattle.model.specs.calls.Refusals.{over}
@@ -7,7 +6,4 @@ use Rattle.model.specs.calls.RenamingCalls.{new_edges}
 use Rattle.filled_edges.proofs.write_edges.Given as goal
 
 abbrev pub invariant-loop-i : goal.invariant-loop-i
-invariant-loop-i l = (l.i ≤ l.slots) × (length l.dest ≡ length l.initial.dest) × (l.dest ≡ over (encode_edges (take l.i (new_edges l.pivots l.edges))) l.initial.dest)
-
-abbrev pub decreases-loop-i : goal.decreases-loop-i
-decreases-loop-i l = l.slots - l.i
+invariant-loop-i l = (length l.dest ≡ length l.initial.dest) × (l.dest ≡ over (encode_edges (take l.i (new_edges l.pivots l.edges))) l.initial.dest)

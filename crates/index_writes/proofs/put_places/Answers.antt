@@ -1,17 +1,12 @@
-use Rattle.index_writes.proofs.Places.{place_fits, places_start, places_next, places_end}
 use borrow.Author.Rules.{rules}
+use Rattle.index_writes.proofs.Rules.{put_places}
 use Rattle.index_writes.proofs.put_places.Goals as goal
 
-ruleset own = (rules, place_fits, places_start, places_next, places_end)
-
 pub loop-i-init : goal.loop-i-init
-loop-i-init c = (search own, search own, search own)
+loop-i-init c = search (rules, put_places)
 
 pub overflow_cast-place : goal.overflow_cast-place
-overflow_cast-place c = search own
-
-pub loop-i-preserved : goal.loop-i-preserved
-loop-i-preserved c = (search own, search own, search own)
+overflow_cast-place c = search (rules, put_places)
 
 pub returns : goal.returns
-returns c = search own
+returns c = search (rules, put_places)

@@ -1,5 +1,5 @@
 use mathlib.Core.Path.{◌≡◌}
-use Prim.Native.Nat.{◌-◌, ◌≤◌}
+use Prim.Native.Nat.{◌≤◌}
 use lib.ListN.{length, take}
 use Rattle.model.specs.buckets.Index.{encode_index}
 use Rattle.model.specs.calls.Refusals.{over}
@@ -8,6 +8,3 @@ use Rattle.index_writes.proofs.put_places.Given as goal
 
 abbrev pub invariant-loop-i : goal.invariant-loop-i
 invariant-loop-i l = (l.i ≤ l.count) × (length l.dest ≡ length l.initial.dest) × (l.dest ≡ over (encode_index (take l.i (places_beside l.left l.n l.index))) l.initial.dest)
-
-abbrev pub decreases-loop-i : goal.decreases-loop-i
-decreases-loop-i l = l.count - l.i

@@ -1,45 +1,30 @@
-use Rattle.model.proofs.Lists.{part_counts}
-use Rattle.model.proofs.calls.CutPlaces.{key_fits, at_fits, next_fits, pivots_next, edges_at, edges_next}
-use Rattle.model.proofs.calls.InsertionCalls.{insert_pivots_short}
-use Rattle.model.proofs.calls.Writing.{table_answered, table_pivots, table_edges}
-use Rattle.insertion.proofs.Inserts.{new_pivots_lem, new_edges_lem}
 use borrow.Author.Rules.{rules}
+use Rattle.insertion.proofs.Rules.{write_in}
 use Rattle.insertion.proofs.write_in.Goals as goal
 
-ruleset own = (rules, part_counts, key_fits, at_fits, next_fits, pivots_next, edges_at, edges_next, new_pivots_lem, new_edges_lem, insert_pivots_short, table_answered, table_pivots, table_edges)
-
 pub overflow_cast-k : goal.overflow_cast-k
-overflow_cast-k c = search own
+overflow_cast-k c = search (rules, write_in)
 
 pub overflow_mul-at : goal.overflow_mul-at
-overflow_mul-at c = search own
+overflow_mul-at c = search (rules, write_in)
 
 pub overflow_add-next : goal.overflow_add-next
-overflow_add-next c = search own
+overflow_add-next c = search (rules, write_in)
 
 pub slice_bounds-write_table-end : goal.slice_bounds-write_table-end
-slice_bounds-write_table-end c = search own
+slice_bounds-write_table-end c = search (rules, write_in)
 
 pub slice_bounds-write_table-count : goal.slice_bounds-write_table-count
-slice_bounds-write_table-count c = search own
+slice_bounds-write_table-count c = search (rules, write_in)
 
 pub slice_bounds-write_table-start : goal.slice_bounds-write_table-start
-slice_bounds-write_table-start c = search own
+slice_bounds-write_table-start c = search (rules, write_in)
 
 pub slice_bounds-write_table-end-4 : goal.slice_bounds-write_table-end-4
-slice_bounds-write_table-end-4 c = search own
+slice_bounds-write_table-end-4 c = search (rules, write_in)
 
 pub slice_bounds-write_table-count-2 : goal.slice_bounds-write_table-count-2
-slice_bounds-write_table-count-2 c = search own
+slice_bounds-write_table-count-2 c = search (rules, write_in)
 
 pub slice_bounds-write_table-start-2 : goal.slice_bounds-write_table-start-2
-slice_bounds-write_table-start-2 c = search own
-
-pub returns-clause-answered : goal.returns-clause-answered
-returns-clause-answered c = search own
-
-pub returns-clause-pivots : goal.returns-clause-pivots
-returns-clause-pivots c = search own
-
-pub returns-clause-edges : goal.returns-clause-edges
-returns-clause-edges c = search own
+slice_bounds-write_table-start-2 c = search (rules, write_in)

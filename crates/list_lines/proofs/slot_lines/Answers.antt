@@ -1,11 +1,10 @@
 use borrow.Author.Rules.{rules}
-use Rattle.list_lines.proofs.SlotLines.{lines_none, lines_none_written, lines_length, lines_written, lines_end_length, lines_end_written}
+use Rattle.list_lines.proofs.Rules.{slot_lines}
+use Rattle.list_lines.proofs.SlotLines.{lines_written}
 use Rattle.list_lines.proofs.slot_lines.Goals as goal
 
-ruleset own = (rules, lines_none, lines_none_written, lines_length, lines_written, lines_end_length, lines_end_written)
-
-pub loop-i-init : goal.loop-i-init
-loop-i-init c = (search own, search own, search own, search own, search own)
-
 pub loop-i-preserved : goal.loop-i-preserved
-loop-i-preserved c = (search own, search own, search own, search own, search own)
+loop-i-preserved c =
+    let w = lines_written c.args.pivots.now c.args.edges.now c.loop-i.i c.loop-i.n c.min-at.result c.args.dest.now c.loop-i.dest c.slot_line-n.new.dest
+    (search rules) (search rules) (search rules) c.slot_line-n.ensures.written in
+    search (rules, slot_lines, w)

@@ -1,4 +1,5 @@
 -- When two tables translate a key alike, answer and bytes.
+use Rattle.std.specs.Prelude.{Err}
 use mathlib.Core.Path.{◌≡◌, refl, sym, ◌∙◌}
 use mathlib.Core.Bool.{Bool, true, false, cond, not}
 use mathlib.Core.List.{List, [], ◌∷◌, ◌++◌}
@@ -6,7 +7,6 @@ use mathlib.Core.Option.{none, some}
 use Prim.Native.Nat.{ℕ}
 use Rattle.model.specs.declared.Refusal.{Refusal}
 use Rattle.model.specs.declared.Refusal.TheVariants.{Malformed, OutOfRange}
-use Rattle.model.specs.declared.Answer.TheVariants as answers
 use Rattle.model.specs.keys.Key.{Key, too_long}
 use Rattle.model.specs.records.Record.{elements, edges}
 use Rattle.model.specs.tables.Tables.{BoundedKey}
@@ -45,7 +45,7 @@ alike p e p' e' k h h' b b' t d =
 -- a key is translated alike, namely refused, by tables without causes 1 to 4 in which it isn't bounded
 pub alike_outside : (p e p' e' : List ℕ) (k : Key) → first (table_causes false false p e) ≡ none → first (table_causes false false p' e') ≡ none
     → BoundedKey (elements p) k ≡ false → BoundedKey (elements p') k ≡ false → TranslatedAlike p e p' e' k
-alike_outside p e p' e' k h h' b b' d = (both_refused answers.Refused _ _ _ _, both_refused (λ (_ : Refusal). d) _ _ _ _)
+alike_outside p e p' e' k h h' b b' d = (both_refused Err _ _ _ _, both_refused (λ (_ : Refusal). d) _ _ _ _)
   where
     r : Refusal
     r = cond (too_long k) Malformed OutOfRange

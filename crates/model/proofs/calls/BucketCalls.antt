@@ -1,4 +1,5 @@
 -- Buckets by their bytes: a checked bucket is the bytes of its entries, a renamed one passes the check, and will-it-fit says no where the call answers 8 or 10.
+use Rattle.std.specs.Prelude.{Result, Ok, Err}
 use mathlib.Core.Path.{◌≡◌, refl, sym}
 use mathlib.Core.Bool.{Bool, true, false, cond, not, ◌||◌}
 use mathlib.Core.List.{List, [], ◌∷◌}
@@ -11,14 +12,10 @@ use lib.Dec.{eqb, leb}
 use lib.ListN.{length, take}
 use Rattle.model.specs.declared.Refusal.{Refusal}
 use Rattle.model.specs.declared.Refusal.TheVariants.{Shape, Malformed, TooLong, NoRoom}
-use Rattle.model.specs.declared.Answer.{Answer}
-use Rattle.model.specs.declared.Answer.TheVariants as answers
-use Rattle.model.specs.declared.Decided.{Decided}
-use Rattle.model.specs.declared.Decided.TheVariants as decided
 use Rattle.model.specs.keys.Key.{Key, Bytes, max_len, too_long, IsPrefix}
 use Rattle.model.specs.tables.Tables.{all}
 use Rattle.model.specs.buckets.Bucket.{Bucket, number_size, entry_size, max_entries, entry_bytes, entries, encode_bucket, translate_entry, TranslateBucket, sized_entry}
-use Rattle.model.specs.calls.Refusals.{outcome, first, yes_or_no, over}
+use Rattle.model.specs.calls.Refusals.{outcome, first, over}
 use Rattle.model.specs.calls.BucketCalls.{not_entry_count, entries_read, bucket_causes, new_bucket, short_entry, bucket_long, bucket_full, rename_causes}
 use Rattle.model.specs.calls.BucketCalls.{translate_bucket_causes, translate_bucket_answer, translate_bucket_leaves, will_fit_answer}
 use Rattle.model.proofs.Lists.{take_over}
@@ -92,7 +89,7 @@ written_bucket = written_by number_size
 
 -- ---- an accepted renaming
 
-module _ (l : List ℕ) (p q : Key) (d : List ℕ) (m : ℕ) (h : translate_bucket_answer l p q d ≡ answers.Value m) where
+module _ (l : List ℕ) (p q : Key) (d : List ℕ) (m : ℕ) (h : translate_bucket_answer l p q d ≡ Ok m) where
   no_cause : first (translate_bucket_causes l p q d) ≡ none
   no_cause = accepted (translate_bucket_causes l p q d) (length (new_bucket l p q)) (translate_bucket_answer l p q d) refl m h
 
@@ -129,19 +126,19 @@ module _ (l : List ℕ) (p q : Key) (d : List ℕ) (m : ℕ) (h : translate_buck
 -- ---- will it fit
 
 -- the call and the question by whether causes 1, 2, 8 and 10 apply
-abbrev call_by : ℕ → Bool → Bool → Bool → Bool → Answer
+abbrev call_by : ℕ → Bool → Bool → Bool → Bool → Result ℕ Refusal
 call_by n x y a b =
-    cond x (answers.Refused Shape) (cond y (answers.Refused Malformed) (cond a (answers.Refused TooLong) (cond b (answers.Refused NoRoom) (answers.Value n))))
+    cond x (Err Shape) (cond y (Err Malformed) (cond a (Err TooLong) (cond b (Err NoRoom) (Ok n))))
 
-abbrev fit_by : Bool → Bool → Bool → Bool → Decided
-fit_by x y a b = cond x (decided.Refused Shape) (cond y (decided.Refused Malformed) (yes_or_no (not (a || b))))
+abbrev fit_by : Bool → Bool → Bool → Bool → Result Bool Refusal
+fit_by x y a b = cond x (Err Shape) (cond y (Err Malformed) (Ok (not (a || b))))
 
 -- what is claimed of the two
-record Agree (n : ℕ) (c : Answer) (f : Decided) : Type 0 where
-  no : f ≡ decided.No → (c ≡ answers.Refused TooLong) ⊎ (c ≡ answers.Refused NoRoom)
-  eight : c ≡ answers.Refused TooLong → f ≡ decided.No
-  ten : c ≡ answers.Refused NoRoom → f ≡ decided.No
-  yes : f ≡ decided.Yes → c ≡ answers.Value n
+record Agree (n : ℕ) (c : Result ℕ Refusal) (f : Result Bool Refusal) : Type 0 where
+  no : f ≡ Ok false → (c ≡ Err TooLong) ⊎ (c ≡ Err NoRoom)
+  eight : c ≡ Err TooLong → f ≡ Ok false
+  ten : c ≡ Err NoRoom → f ≡ Ok false
+  yes : f ≡ Ok true → c ≡ Ok n
 
 agree : (n : ℕ) (x y a b : Bool) → Agree n (call_by n x y a b) (fit_by x y a b)
 agree n true y a b =
@@ -176,17 +173,17 @@ module _ (l : List ℕ) (p q : Key) (d : List ℕ) where
   both_agree = agree (length (new_bucket l p q)) (not_entry_count l) (too_long p || too_long q || not (entries_read (entry_bytes l))) (bucket_long l p q) (bucket_full l p q (length d))
 
   -- it says no only where the call, with a destination of that length, answers 8 or 10
-  pub no_refused : will_fit_answer l p q (length d) ≡ decided.No → (translate_bucket_answer l p q d ≡ answers.Refused TooLong) ⊎ (translate_bucket_answer l p q d ≡ answers.Refused NoRoom)
+  pub no_refused : will_fit_answer l p q (length d) ≡ Ok false → (translate_bucket_answer l p q d ≡ Err TooLong) ⊎ (translate_bucket_answer l p q d ≡ Err NoRoom)
   no_refused = both_agree.no
 
   -- and wherever it answers 8
-  pub eight_no : translate_bucket_answer l p q d ≡ answers.Refused TooLong → will_fit_answer l p q (length d) ≡ decided.No
+  pub eight_no : translate_bucket_answer l p q d ≡ Err TooLong → will_fit_answer l p q (length d) ≡ Ok false
   eight_no = both_agree.eight
 
   -- or 10
-  pub ten_no : translate_bucket_answer l p q d ≡ answers.Refused NoRoom → will_fit_answer l p q (length d) ≡ decided.No
+  pub ten_no : translate_bucket_answer l p q d ≡ Err NoRoom → will_fit_answer l p q (length d) ≡ Ok false
   ten_no = both_agree.ten
 
   -- where it says yes the call is accepted
-  pub yes_accepted : will_fit_answer l p q (length d) ≡ decided.Yes → translate_bucket_answer l p q d ≡ answers.Value (length (new_bucket l p q))
+  pub yes_accepted : will_fit_answer l p q (length d) ≡ Ok true → translate_bucket_answer l p q d ≡ Ok (length (new_bucket l p q))
   yes_accepted = both_agree.yes

@@ -1,4 +1,5 @@
 -- The room that a renamed bucket needs is that of what is written. Whatever was answered when it had to be that of the whole bucket is answered still, but for 10.
+use Rattle.std.specs.Prelude.{Result, Ok, Err}
 use mathlib.Core.Path.{◌≡◌, refl, sym, ◌∙◌}
 use mathlib.Core.Bool.{Bool, true, false, cond, not, ◌||◌, true≢false}
 use mathlib.Core.List.{List, [], ◌∷◌, ◌++◌}
@@ -10,12 +11,9 @@ use lib.Dec.{ltb}
 use lib.ListN.{length}
 use Rattle.model.specs.declared.Refusal.{Refusal}
 use Rattle.model.specs.declared.Refusal.TheVariants.{TooLong, NoRoom}
-use Rattle.model.specs.declared.Answer.TheVariants as answers
-use Rattle.model.specs.declared.Decided.{Decided}
-use Rattle.model.specs.declared.Decided.TheVariants as decided
 use Rattle.model.specs.keys.Key.{Key}
 use Rattle.model.specs.buckets.Bucket.{entry_size, entries, encode_bucket}
-use Rattle.model.specs.calls.Refusals.{Cause, ◌⇒◌, outcome, first, answer, decision, leaves}
+use Rattle.model.specs.calls.Refusals.{Cause, ◌⇒◌, outcome, first, answer, leaves}
 use Rattle.model.specs.calls.KeyCalls.{no_room}
 use Rattle.model.specs.calls.BucketCalls.{bucket_causes, new_bucket, needed_bytes, bucket_long, bucket_full, rename_causes}
 use Rattle.model.specs.calls.BucketCalls.{translate_bucket_causes, translate_bucket_answer, translate_bucket_leaves, will_fit_answer}
@@ -33,16 +31,16 @@ module _ (l : List ℕ) (p q : Key) (h : first (rename_causes l p q) ≡ none) (
   needed_written = sym (length-encode_bucket (new_bucket l p q) (kept_sized l p q h (not-false _ s)))
 
   -- so without 1, 2 and 8 the answer is 10 where the destination is shorter than what is written, as by every call, and else the count
-  pub by_room : (d : List ℕ) → translate_bucket_answer l p q d ≡ cond (no_room (length (encode_bucket (new_bucket l p q))) d) (answers.Refused NoRoom) (answers.Value (length (new_bucket l p q)))
+  pub by_room : (d : List ℕ) → translate_bucket_answer l p q d ≡ cond (no_room (length (encode_bucket (new_bucket l p q))) d) (Err NoRoom) (Ok (length (new_bucket l p q)))
   unfolding outcome
   by_room d =
-      let n = answers.Value (length (new_bucket l p q)) in
-      let e = cond (bucket_full l p q (length d)) (answers.Refused NoRoom) n in
+      let n = Ok (length (new_bucket l p q)) in
+      let e = cond (bucket_full l p q (length d)) (Err NoRoom) n in
       rw (← needed_written)
-      (sym (after answers.Refused n e (rename_causes l p q) _ h (later answers.Refused n e (bucket_long l p q) TooLong ((bucket_full l p q (length d) ⇒ NoRoom) ∷ []) s refl)))
+      (sym (after Err n e (rename_causes l p q) _ h (later Err n e (bucket_long l p q) TooLong ((bucket_full l p q (length d) ⇒ NoRoom) ∷ []) s refl)))
 
   -- one as long as the bucket is always enough
-  pub bucket_enough : (d : List ℕ) → length l ≤ length d → translate_bucket_answer l p q d ≡ answers.Value (length (new_bucket l p q))
+  pub bucket_enough : (d : List ℕ) → length l ≤ length d → translate_bucket_answer l p q d ≡ Ok (length (new_bucket l p q))
   unfolding needed_bytes
   bucket_enough d j =
       let w = (translated_wft (entries l) p q 0 (omega arith)).at_most in
@@ -50,8 +48,8 @@ module _ (l : List ℕ) (p q : Key) (h : first (rename_causes l p q) ≡ none) (
       rw (le-ltb (length d) (length (encode_bucket (new_bucket l p q))) k) at (by_room d)
 
 -- where n entries are kept, a destination that holds n is taken, and any shorter one is 10
-pub room_of_kept : (l : List ℕ) (p q : Key) (d : List ℕ) (n : ℕ) → translate_bucket_answer l p q d ≡ answers.Value n
-    → (d' : List ℕ) → translate_bucket_answer l p q d' ≡ cond (no_room (n * entry_size) d') (answers.Refused NoRoom) (answers.Value n)
+pub room_of_kept : (l : List ℕ) (p q : Key) (d : List ℕ) (n : ℕ) → translate_bucket_answer l p q d ≡ Ok n
+    → (d' : List ℕ) → translate_bucket_answer l p q d' ≡ cond (no_room (n * entry_size) d') (Err NoRoom) (Ok n)
 room_of_kept l p q d n a d' =
     let c = accepted (translate_bucket_causes l p q d) (length (new_bucket l p q)) _ refl n a in
     let h = none_before (rename_causes l p q) _ c in
@@ -71,8 +69,8 @@ abbrev whole_causes : List ℕ → Key → Key → List ℕ → List Cause
 whole_causes l p q d = rename_causes l p q ++ (bucket_long l p q ⇒ TooLong) ∷ (whole_full l (length d) ⇒ NoRoom) ∷ []
 
 -- the answer to the question whether it will fit, by that cause
-abbrev whole_fit : List ℕ → Key → Key → ℕ → Decided
-whole_fit l p q n = decision (rename_causes l p q) (not (bucket_long l p q || whole_full l n))
+abbrev whole_fit : List ℕ → Key → Key → ℕ → Result Bool Refusal
+whole_fit l p q n = answer (rename_causes l p q) (not (bucket_long l p q || whole_full l n))
 
 -- that need was the bucket's own length
 pub whole_is : (l : List ℕ) (p q : Key) (n : ℕ) → first (rename_causes l p q) ≡ none → whole_full l n ≡ ltb n (length l)
@@ -89,7 +87,7 @@ last_cause f v ((true ⇒ s) ∷ cs) b c r h n = refl
 last_cause f v ((false ⇒ s) ∷ cs) b c r h n = last_cause f v cs b c r h n
 
 -- a reason for "no" that applies less often changes the answer only where that was no
-last_no : (cs : List Cause) (a b c : Bool) → (b ≡ true → c ≡ true) → (decision cs (not (a || c)) ≡ decided.No → ⊥) → decision cs (not (a || b)) ≡ decision cs (not (a || c))
+last_no : (cs : List Cause) (a b c : Bool) → (b ≡ true → c ≡ true) → (answer cs (not (a || c)) ≡ Ok false → ⊥) → answer cs (not (a || b)) ≡ answer cs (not (a || c))
 unfolding outcome
 last_no [] true b c h n = refl
 last_no [] false b true h n = absurd (n refl)
@@ -108,17 +106,17 @@ module _ (l : List ℕ) (p q : Key) where
       lt-ltb n (length (entries l) * entry_size) (omega arith)
 
   -- "Calls that were accepted answer as they did" and leave what they did; so does each that was refused, but with 10
-  pub as_before : (d : List ℕ) → (answer (whole_causes l p q d) (length (new_bucket l p q)) ≡ answers.Refused NoRoom → ⊥)
+  pub as_before : (d : List ℕ) → (answer (whole_causes l p q d) (length (new_bucket l p q)) ≡ Err NoRoom → ⊥)
       → (translate_bucket_answer l p q d ≡ answer (whole_causes l p q d) (length (new_bucket l p q)))
       × (translate_bucket_leaves l p q d ≡ leaves (whole_causes l p q d) (encode_bucket (new_bucket l p q)) d)
   unfolding bucket_causes
   as_before d h =
-      let n : first (whole_causes l p q d) ≡ some NoRoom → ⊥ = λ e. h (sym (refused_by answers.Refused _ _ (whole_causes l p q d) NoRoom e refl)) in
+      let n : first (whole_causes l p q d) ≡ some NoRoom → ⊥ = λ e. h (sym (refused_by Err _ _ (whole_causes l p q d) NoRoom e refl)) in
       let cs = rename_causes l p q ++ (bucket_long l p q ⇒ TooLong) ∷ [] in (
-        last_cause answers.Refused _ cs (bucket_full l p q (length d)) (whole_full l (length d)) NoRoom (less_needed (length d)) n,
+        last_cause Err _ cs (bucket_full l p q (length d)) (whole_full l (length d)) NoRoom (less_needed (length d)) n,
         last_cause (λ (r : Refusal). d) _ cs (bucket_full l p q (length d)) (whole_full l (length d)) NoRoom (less_needed (length d)) n,
       )
 
   -- the question whether it will fit reads accordingly: its yes stays, and so do its refusals
-  pub fit_as_before : (n : ℕ) → (whole_fit l p q n ≡ decided.No → ⊥) → will_fit_answer l p q n ≡ whole_fit l p q n
+  pub fit_as_before : (n : ℕ) → (whole_fit l p q n ≡ Ok false → ⊥) → will_fit_answer l p q n ≡ whole_fit l p q n
   fit_as_before n h = last_no (rename_causes l p q) (bucket_long l p q) (bucket_full l p q n) (whole_full l n) (less_needed n) h

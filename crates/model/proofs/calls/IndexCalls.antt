@@ -1,4 +1,5 @@
 -- An index by its bytes: which one the check accepts, what build leaves, and the parts of the slots.
+use Rattle.std.specs.Prelude.{Ok, Err}
 use mathlib.Core.Path.{◌≡◌, refl, sym, ap, ◌∙◌}
 use mathlib.Core.Bool.{Bool, true, false, cond}
 use mathlib.Core.List.{List, [], ◌∷◌}
@@ -10,7 +11,6 @@ use lib.Dec.{eqb}
 use lib.ListN.{length, take}
 use Rattle.model.specs.declared.Refusal.{Refusal}
 use Rattle.model.specs.declared.Refusal.TheVariants.{NoSuchSlot, NoRoom}
-use Rattle.model.specs.declared.Answer.TheVariants as answers
 use Rattle.model.specs.keys.Key.{Bytes}
 use Rattle.model.specs.records.Record.{joined, elements}
 use Rattle.model.specs.tables.Tables.{NumBuckets, all, Route}
@@ -42,7 +42,7 @@ pub index_length : (p l : List ℕ) → length (index_bytes p l) ≡ length (ele
 index_length p l = rw (length-encode_index, index_count)
 
 -- an accepted check
-module _ (p l x : List ℕ) (m : ℕ) (h : check_index_answer p l x ≡ answers.Value m) where
+module _ (p l x : List ℕ) (m : ℕ) (h : check_index_answer p l x ≡ Ok m) where
   -- found none of the causes
   pub check_none : first (given_causes false false p l x) ≡ none
   check_none = accepted (given_causes false false p l x) (length (entries l)) (check_index_answer p l x) refl m h
@@ -52,7 +52,7 @@ module _ (p l x : List ℕ) (m : ℕ) (h : check_index_answer p l x ≡ answers.
   check_answers = value_is (given_causes false false p l x) (length (entries l)) (check_index_answer p l x) refl m h
 
 -- an accepted build
-module _ (p l d : List ℕ) (m : ℕ) (h : build_index_answer p l d ≡ answers.Value m) where
+module _ (p l d : List ℕ) (m : ℕ) (h : build_index_answer p l d ≡ Ok m) where
   built : first (build_index_causes p l d) ≡ none
   built = accepted (build_index_causes p l d) (length (entries l)) (build_index_answer p l d) refl m h
 
@@ -69,13 +69,13 @@ module _ (p l d : List ℕ) (m : ℕ) (h : build_index_answer p l d ≡ answers.
   build_writes = wrote (build_index_causes p l d) (index_bytes p l) d (length (elements p) * place_size) built (index_length p l)
 
 -- pivots, bucket and index of which that holds are accepted
-pub check_accepts : (p l x : List ℕ) → first (entries_causes false false p l) ≡ none → x ≡ index_bytes p l → check_index_answer p l x ≡ answers.Value (length (entries l))
-check_accepts p l x h e = sym (passed answers.Refused _ _ (given_causes false false p l x) (none_given false false p l x h e) refl)
+pub check_accepts : (p l x : List ℕ) → first (entries_causes false false p l) ≡ none → x ≡ index_bytes p l → check_index_answer p l x ≡ Ok (length (entries l))
+check_accepts p l x h e = sym (passed Err _ _ (given_causes false false p l x) (none_given false false p l x h e) refl)
 
 -- the check accepts an index where, and only where, it is the one that build writes
-pub check_is_built : (p l d : List ℕ) (m : ℕ) → build_index_answer p l d ≡ answers.Value m → (x : List ℕ)
-    → (check_index_answer p l x ≡ answers.Value m → x ≡ take (length (elements p) * place_size) (build_index_leaves p l d))
-    × (x ≡ take (length (elements p) * place_size) (build_index_leaves p l d) → check_index_answer p l x ≡ answers.Value m)
+pub check_is_built : (p l d : List ℕ) (m : ℕ) → build_index_answer p l d ≡ Ok m → (x : List ℕ)
+    → (check_index_answer p l x ≡ Ok m → x ≡ take (length (elements p) * place_size) (build_index_leaves p l d))
+    × (x ≡ take (length (elements p) * place_size) (build_index_leaves p l d) → check_index_answer p l x ≡ Ok m)
 check_is_built p l d m h x =
     let w = build_writes p l d m h in
     let n = build_answers p l d m h in (
@@ -84,25 +84,25 @@ check_is_built p l d m h x =
     )
 
 -- where an index is accepted, build is too, with as much room, and answers the same
-pub checked_builds : (p l x : List ℕ) (m : ℕ) → check_index_answer p l x ≡ answers.Value m → (d : List ℕ) → length x ≤ length d → build_index_answer p l d ≡ answers.Value m
+pub checked_builds : (p l x : List ℕ) (m : ℕ) → check_index_answer p l x ≡ Ok m → (d : List ℕ) → length x ≤ length d → build_index_answer p l d ≡ Ok m
 unfolding outcome
 checked_builds p l x m h d r =
     let c = check_none p l x m h in
     let e = given_length false false p l x c in
     let z = le-ltb (length d) (length (elements p) * place_size) (omega arith) in
-    rw (check_answers p l x m h) (sym (after answers.Refused _ _ (entries_causes false false p l) _ (given_entries false false p l x c) (rw z)))
+    rw (check_answers p l x m h) (sym (after Err _ _ (entries_causes false false p l) _ (given_entries false false p l x c) (rw z)))
 
 -- an index that is accepted is what build leaves
-pub checked_is_built : (p l x : List ℕ) (m : ℕ) → check_index_answer p l x ≡ answers.Value m → (d : List ℕ) → length x ≤ length d → take (length x) (build_index_leaves p l d) ≡ x
+pub checked_is_built : (p l x : List ℕ) (m : ℕ) → check_index_answer p l x ≡ Ok m → (d : List ℕ) → length x ≤ length d → take (length x) (build_index_leaves p l d) ≡ x
 checked_is_built p l x m h d r =
     let n = given_length false false p l x (check_none p l x m h) in
     rw n (sym ((check_is_built p l d m (checked_builds p l x m h d r) x).0 h))
 
 -- where pivots and bucket are accepted, build answers 10 if the destination is shorter than what is written, and else the total
 pub build_by_room : (p l d : List ℕ) → first (entries_causes false false p l) ≡ none
-    → build_index_answer p l d ≡ cond (no_room (length (index_bytes p l)) d) (answers.Refused NoRoom) (answers.Value (length (entries l)))
+    → build_index_answer p l d ≡ cond (no_room (length (index_bytes p l)) d) (Err NoRoom) (Ok (length (entries l)))
 unfolding outcome
-build_by_room p l d h = sym (after answers.Refused _ _ (entries_causes false false p l) _ h (rw (index_length p l)))
+build_by_room p l d h = sym (after Err _ _ (entries_causes false false p l) _ h (rw (index_length p l)))
 
 -- ---- what an index says
 
@@ -132,11 +132,11 @@ indexes_of p l x m h t e =
     }
 
 -- what build leaves is such an index
-pub build_leaves : (p l d : List ℕ) (m : ℕ) → build_index_answer p l d ≡ answers.Value m → Indexes p l m (take (length (elements p) * place_size) (build_index_leaves p l d))
+pub build_leaves : (p l d : List ℕ) (m : ℕ) → build_index_answer p l d ≡ Ok m → Indexes p l m (take (length (elements p) * place_size) (build_index_leaves p l d))
 build_leaves p l d m h = indexes_of p l _ m (build_none p l d m h) (build_answers p l d m h) (build_writes p l d m h)
 
 -- an index that the check accepts says the same, and its last place is what the check answers
-pub check_indexes : (p l x : List ℕ) (m : ℕ) → check_index_answer p l x ≡ answers.Value m → Indexes p l m x
+pub check_indexes : (p l x : List ℕ) (m : ℕ) → check_index_answer p l x ≡ Ok m → Indexes p l m x
 check_indexes p l x m h =
     let g = check_none p l x m h in
     indexes_of p l x m (given_entries false false p l x g) (check_answers p l x m h) (given_index false false p l x g)
@@ -149,7 +149,7 @@ module _ (p l x : List ℕ) where
   unfolding outcome
   part_is h i k = sym (after (λ (_ : Refusal). []) _ _ (given_causes false false p l x) _ h (rw (lt-ltb i (NumBuckets (elements p)) k)))
 
-  module _ (i m : ℕ) (h : slot_entries_answer p l x i ≡ answers.Value m) where
+  module _ (i m : ℕ) (h : slot_entries_answer p l x i ≡ Ok m) where
     none_slot : first (slot_entries_causes p l x i) ≡ none
     none_slot = accepted (slot_entries_causes p l x i) (length (slot_entries (elements p) (entries l) i)) (slot_entries_answer p l x i) refl m h
 
@@ -192,7 +192,7 @@ module _ (p l x : List ℕ) where
       rw (encode_append (slot_entries (elements p) (entries l) i) (together (slots_from (elements p) (entries l) (suc i) n)), part_is h i (omega arith), parts_encode h (suc i) n (omega arith))
 
   -- the parts of all slots, one after the other, are the bucket, byte for byte
-  pub parts_joined : (m : ℕ) → check_index_answer p l x ≡ answers.Value m → Bytes l → joined (slot_parts 0 (NumBuckets (elements p))) ≡ l
+  pub parts_joined : (m : ℕ) → check_index_answer p l x ≡ Ok m → Bytes l → joined (slot_parts 0 (NumBuckets (elements p))) ≡ l
   parts_joined m h b =
       let g = check_none p l x m h in
       let c = given_entries false false p l x g in

@@ -1,4 +1,5 @@
 -- A bucket cut with its index: what the call writes is the entries on its side, with the index that build writes for them; both sides are the whole.
+use Rattle.std.specs.Prelude.{Ok, Err}
 use mathlib.Core.Path.{◌≡◌, refl, sym, ap, ◌∙◌}
 use mathlib.Core.Bool.{Bool, true, false, cond, not, ◌||◌, not-not}
 use mathlib.Core.List.{List, ◌++◌}
@@ -8,7 +9,6 @@ use native.Mathlib.Omega.{arith}
 use borrow.Author.Tests.{ltb-false, not-false}
 use lib.ListN.{length, take, length-append}
 use Rattle.model.specs.declared.Refusal.TheVariants.{NoRoom}
-use Rattle.model.specs.declared.Answer.TheVariants as answers
 use Rattle.model.specs.keys.Key.{Key, Bytes, max_len, too_long}
 use Rattle.model.specs.keys.Order.{key, lte}
 use Rattle.model.specs.records.Record.{elements, encode_all}
@@ -81,15 +81,15 @@ module _ (left : Bool) (p l x : List ℕ) (k : Key) (h : first (given_causes (to
   -- where all before is accepted, the answer is 10 if a destination is shorter than what is written to it, and else the number of entries
   pub cut_by_room : (db dx : List ℕ)
       → cut_index_answer left p l x k db dx
-      ≡ cond (no_room (length (encode_bucket (cut_entries left l k))) db || no_room (length (encode_index (cut_index left p l k))) dx) (answers.Refused NoRoom) (answers.Value (length (cut_entries left l k)))
+      ≡ cond (no_room (length (encode_bucket (cut_entries left l k))) db || no_room (length (encode_index (cut_index left p l k))) dx) (Err NoRoom) (Ok (length (cut_entries left l k)))
   unfolding outcome
   cut_by_room db dx =
-      sym (after answers.Refused _ _ (given_causes (too_long k) (not (inside left (elements p) k)) p l x) _ h
+      sym (after Err _ _ (given_causes (too_long k) (not (inside left (elements p) k)) p l x) _ h
       (rw (length-encode_bucket (cut_entries left l k) side_sized, cut_length left p l k)))
 
 -- ---- an accepted cut
 
-module _ (left : Bool) (p l x : List ℕ) (k : Key) (db dx : List ℕ) (m : ℕ) (h : cut_index_answer left p l x k db dx ≡ answers.Value m) where
+module _ (left : Bool) (p l x : List ℕ) (k : Key) (db dx : List ℕ) (m : ℕ) (h : cut_index_answer left p l x k db dx ≡ Ok m) where
   no_cause : first (cut_index_causes left p l x k db dx) ≡ none
   no_cause = accepted (cut_index_causes left p l x k db dx) (length (cut_entries left l k)) (cut_index_answer left p l x k db dx) refl m h
 
@@ -153,13 +153,13 @@ module _ (left : Bool) (p l x : List ℕ) (k : Key) (db dx : List ℕ) (m : ℕ)
 
   -- the index written is the one that belongs to the cut table and these entries: the check accepts it
   pub cut_checks : check_index_answer (encode_all (cut_pivots left p k)) (take (m * entry_size) (cut_index_leaves_bucket left p l x k db dx))
-      (take (length (cut_pivots left p k) * place_size) (cut_index_leaves_index left p l x k db dx)) ≡ answers.Value m
+      (take (length (cut_pivots left p k) * place_size) (cut_index_leaves_index left p l x k db dx)) ≡ Ok m
   cut_checks =
       let g = entries-encode_bucket (cut_entries left l k) sized in
       let e : index_bytes (encode_all (cut_pivots left p k)) (encode_bucket (cut_entries left l k)) ≡ encode_index (cut_index left p l k) = rw (g, cut_pivots_lem) in
       rw (cut_bucket, cut_index_lem)
       (check_accepts (encode_all (cut_pivots left p k)) (encode_bucket (cut_entries left l k)) (encode_index (cut_index left p l k)) none_cut (sym e)
-      ∙ ap (λ (b : Bucket). answers.Value (length b)) g ∙ ap answers.Value (sym cut_answers))
+      ∙ ap (λ (b : Bucket). Ok (length b)) g ∙ ap Ok (sym cut_answers))
 
   -- so it is what build leaves for them
   pub cut_is_built : (d : List ℕ) → length (take (length (cut_pivots left p k) * place_size) (cut_index_leaves_index left p l x k db dx)) ≤ length d
@@ -175,7 +175,7 @@ module _ (left : Bool) (p l x : List ℕ) (k : Key) (db dx : List ℕ) (m : ℕ)
 
 -- ---- both sides
 
-module _ (p l x : List ℕ) (k : Key) (db dx eb ex : List ℕ) (m n : ℕ) (h : cut_index_answer true p l x k db dx ≡ answers.Value m) (g : cut_index_answer false p l x k eb ex ≡ answers.Value n) where
+module _ (p l x : List ℕ) (k : Key) (db dx eb ex : List ℕ) (m n : ℕ) (h : cut_index_answer true p l x k db dx ≡ Ok m) (g : cut_index_answer false p l x k eb ex ≡ Ok n) where
   sides : cut_entries true l k ++ cut_entries false l k ≡ entries l
   sides = below_from (key k) (entries l) (entries_rise_lem (too_long k) _ p l (checked true p l x k db dx m h))
 

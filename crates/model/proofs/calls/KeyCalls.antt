@@ -1,4 +1,5 @@
 -- A change of prefix: when it can be refused only for its size, and what an accepted one leaves.
+use Rattle.std.specs.Prelude.{Result, Ok}
 use mathlib.Core.Path.{◌≡◌, refl, sym, ◌∙◌}
 use mathlib.Core.Bool.{true, not, ◌||◌}
 use mathlib.Core.List.{List}
@@ -9,8 +10,6 @@ use borrow.Author.Tests.{ltb-false}
 use lib.ListN.{length, take}
 use Rattle.model.specs.declared.Refusal.{Refusal}
 use Rattle.model.specs.declared.Refusal.TheVariants.{Malformed, NotPrefix, TooLong}
-use Rattle.model.specs.declared.Answer.{Answer}
-use Rattle.model.specs.declared.Answer.TheVariants as answers
 use Rattle.model.specs.keys.Key.{Key, max_len, too_long, IsPrefix, change_prefix}
 use Rattle.model.specs.calls.Refusals.{outcome, first, over}
 use Rattle.model.specs.calls.KeyCalls.{size_causes, change_prefix_causes, change_prefix_answer, change_prefix_leaves}
@@ -28,7 +27,7 @@ only_sizes f v k p q d h j b =
     rw (not_too_long k h, not_too_long p i, not_too_long q j, b)
 
 -- an accepted change of p to q in k, into d
-module _ (k p q d : List ℕ) (a : Answer) (h : a ≡ change_prefix_answer k p q d) (n : ℕ) (f : a ≡ answers.Value n) where
+module _ (k p q d : List ℕ) (a : Result ℕ Refusal) (h : a ≡ change_prefix_answer k p q d) (n : ℕ) (f : a ≡ Ok n) where
   -- no cause applies
   pub change_accepted : first (change_prefix_causes k p q d) ≡ none
   change_accepted = accepted (change_prefix_causes k p q d) _ a h n f

@@ -1,4 +1,5 @@
 -- What the methods of a pair answer: reversing undoes, composing undoes the second pair and does the first, and its 8 loses no pair of use.
+use Rattle.std.specs.Prelude.{Ok, Err}
 use mathlib.Core.Path.{◌≡◌, refl, sym, ap, ◌∙◌}
 use mathlib.Core.Bool.{Bool, true, false, cond, not, ◌&&◌, ◌||◌}
 use mathlib.Core.List.{List, []}
@@ -11,7 +12,6 @@ use lib.Dec.{ltb}
 use lib.ListN.{length, take, length-take}
 use Rattle.model.specs.declared.Refusal.{Refusal}
 use Rattle.model.specs.declared.Refusal.TheVariants.{Malformed, NotPrefix, TooLong}
-use Rattle.model.specs.declared.Answer.TheVariants as answers
 use Rattle.model.specs.keys.Key.{Key, max_len, too_long}
 use Rattle.model.specs.translation.PrefixSet.{PrefixSet, pair, RevPrefixSet, Begins, ApplyPrefixSet, Composable, ComposePrefixSet, long_pair}
 use Rattle.model.specs.translation.PairState.{PairState, not_pair, pair_of, state_of}
@@ -60,8 +60,8 @@ only_state_sizes f v o k d h j b = rw (state_wrong o, h, state_pair o, not_too_l
 
 -- an image past 64 bytes is refused with 8
 image_refused : (s : PairState) (k : Key) (d : List ℕ) → not_pair s ≡ false → length k ≤ max_len → Begins (pair_of s) k ≡ true
-    → too_long (ApplyPrefixSet (pair_of s) k) ≡ true → apply_answer s k d ≡ answers.Refused TooLong
-image_refused s k d h j b w = only_apply_sizes answers.Refused (answers.Value (length (ApplyPrefixSet (pair_of s) k))) s k d h j b ∙ (unfold outcome in rw w)
+    → too_long (ApplyPrefixSet (pair_of s) k) ≡ true → apply_answer s k d ≡ Err TooLong
+image_refused s k d h j b w = only_apply_sizes Err (Ok (length (ApplyPrefixSet (pair_of s) k))) s k d h j b ∙ (unfold outcome in rw w)
 
 -- a disjunction that holds, holds on one side
 either_holds : {A B : Type 0} (a b : Bool) → (a || b) ≡ true → (a ≡ true → A) → (b ≡ true → B) → A ⊎ B
@@ -70,7 +70,7 @@ either_holds false b h f g = inr (g h)
 
 -- ---- a pair that was applied
 
-module _ (s : PairState) (k : Key) (d : List ℕ) (n : ℕ) (h : apply_answer s k d ≡ answers.Value n) where
+module _ (s : PairState) (k : Key) (d : List ℕ) (n : ℕ) (h : apply_answer s k d ≡ Ok n) where
   no_cause : first (apply_causes s k d) ≡ none
   no_cause = accepted (apply_causes s k d) (length (ApplyPrefixSet (pair_of s) k)) (apply_answer s k d) refl n h
 
@@ -119,8 +119,8 @@ module _ (s : PairState) (k : Key) (d : List ℕ) (n : ℕ) (h : apply_answer s 
     reversed_is = rw (back_right, applied_image, state_pair (RevPrefixSet (pair_of s))) (applied_back k (pair_of s) begun)
 
     -- the reversed pair, applied to what was written, answers the key's length
-    pub back_answer : apply_answer (reverse_pair s) (take n (apply_leaves s k d)) d' ≡ answers.Value (length k)
-    back_answer = back_sizes answers.Refused (answers.Value _) ∙ ap (λ (x : Key). answers.Value (length x)) reversed_is
+    pub back_answer : apply_answer (reverse_pair s) (take n (apply_leaves s k d)) d' ≡ Ok (length k)
+    back_answer = back_sizes Err (Ok _) ∙ ap (λ (x : Key). Ok (length x)) reversed_is
 
     -- the reversed pair, applied to what was written, writes the key
     pub back_leaves : apply_leaves (reverse_pair s) (take n (apply_leaves s k d)) d' ≡ over k d'
@@ -129,7 +129,7 @@ module _ (s : PairState) (k : Key) (d : List ℕ) (n : ℕ) (h : apply_answer s 
 -- ---- composing
 
 module _ (s t : PairState) where
-  module _ (m : ℕ) (h : compose_answer s t ≡ answers.Value m) where
+  module _ (m : ℕ) (h : compose_answer s t ≡ Ok m) where
     composed_none : first (compose_causes s t) ≡ none
     composed_none = accepted (compose_causes s t) (there_number (ComposePrefixSet (pair_of s) (pair_of t))) (compose_answer s t) refl m h
 
@@ -147,7 +147,7 @@ module _ (s t : PairState) where
     composed_is = sym (passed (λ (_ : Refusal). state_of none) _ _ (compose_causes s t) composed_none refl)
 
     -- k begins with both old prefixes, and the second pair takes it to x
-    module _ (k : Key) (d : List ℕ) (n : ℕ) (j : apply_answer t k d ≡ answers.Value n) (b : Begins (pair_of s) k ≡ true) (d' : List ℕ) where
+    module _ (k : Key) (d : List ℕ) (n : ℕ) (j : apply_answer t k d ≡ Ok n) (b : Begins (pair_of s) k ≡ true) (d' : List ℕ) where
       same_image : ApplyPrefixSet (pair_of (compose_pair s t)) (take n (apply_leaves t k d)) ≡ ApplyPrefixSet (pair_of s) k
       same_image =
           rw (composed_is, applied_image t k d n j, state_pair (ComposePrefixSet (pair_of s) (pair_of t)))
@@ -166,7 +166,7 @@ module _ (s t : PairState) where
 
       -- the composed pair, applied to x, answers what the first pair answers of k, a refusal for length included
       pub composed_answer : apply_answer (compose_pair s t) (take n (apply_leaves t k d)) d' ≡ apply_answer s k d'
-      composed_answer = same_sizes answers.Refused (answers.Value _) ∙ ap (λ (x : Key). outcome answers.Refused (apply_causes s k d') (answers.Value (length x))) same_image
+      composed_answer = same_sizes Err (Ok _) ∙ ap (λ (x : Key). outcome Err (apply_causes s k d') (Ok (length x))) same_image
 
       -- the composed pair, applied to x, leaves what the first pair leaves of k
       pub composed_leaves : apply_leaves (compose_pair s t) (take n (apply_leaves t k d)) d' ≡ apply_leaves s k d'
@@ -174,19 +174,19 @@ module _ (s t : PairState) where
 
   module _ (k : Key) (h : Begins (pair_of s) k ≡ true) (j : Begins (pair_of t) k ≡ true) where
     -- two pairs whose old prefixes begin one key are not refused with 7
-    pub composed_not_seven : compose_answer s t ≡ answers.Refused NotPrefix → ⊥
+    pub composed_not_seven : compose_answer s t ≡ Err NotPrefix → ⊥
     unfolding outcome
     composed_not_seven e = go (not_pair s || not_pair t) (long_pair o) (rw (both_composable (pair_of s) (pair_of t) k h j) at e)
       where
         o : Option PrefixSet
         o = ComposePrefixSet (pair_of s) (pair_of t)
 
-        go : (x y : Bool) → cond x (answers.Refused Malformed) (cond y (answers.Refused TooLong) (answers.Value (there_number o))) ≡ answers.Refused NotPrefix → ⊥
+        go : (x y : Bool) → cond x (Err Malformed) (cond y (Err TooLong) (Ok (there_number o))) ≡ Err NotPrefix → ⊥
         go true y e = let z : ◌≡◌ {A = ℕ} 0 1 = cc in omega arith
         go false true e = let z : ◌≡◌ {A = ℕ} 0 1 = cc in omega arith
         go false false e = let z : ◌≡◌ {A = ℕ} 0 1 = cc in omega arith
 
-    module _ (e : compose_answer s t ≡ answers.Refused TooLong) where
+    module _ (e : compose_answer s t ≡ Err TooLong) where
       -- where they are refused with 8, both are right and the composed pair is too long
       eight : (not_pair s ≡ false) × (not_pair t ≡ false) × (long_pair (ComposePrefixSet (pair_of s) (pair_of t)) ≡ true)
       unfolding outcome
@@ -196,14 +196,14 @@ module _ (s t : PairState) where
           o = ComposePrefixSet (pair_of s) (pair_of t)
 
           go : (x y : Bool) → (not_pair s || not_pair t) ≡ x → long_pair o ≡ y
-              → cond x (answers.Refused Malformed) (cond y (answers.Refused TooLong) (answers.Value (there_number o))) ≡ answers.Refused TooLong
+              → cond x (Err Malformed) (cond y (Err TooLong) (Ok (there_number o))) ≡ Err TooLong
               → (not_pair s ≡ false) × (not_pair t ≡ false) × (long_pair o ≡ true)
           go true y p q e = let z : ◌≡◌ {A = ℕ} 0 1 = cc in absurd (omega arith)
           go false true p q e = let w = either_fails (not_pair s) (not_pair t) p in (w.0, w.1, q)
           go false false p q e = let z : ◌≡◌ {A = ℕ} 0 1 = cc in absurd (omega arith)
 
       -- where composing is refused with 8, one of the two pairs refuses each such key with 8, and no pair of use is lost
-      pub composed_eight : (d : List ℕ) → length k ≤ max_len → (apply_answer s k d ≡ answers.Refused TooLong) ⊎ (apply_answer t k d ≡ answers.Refused TooLong)
+      pub composed_eight : (d : List ℕ) → length k ≤ max_len → (apply_answer s k d ≡ Err TooLong) ⊎ (apply_answer t k d ≡ Err TooLong)
       composed_eight d l = either_holds (too_long (ApplyPrefixSet (pair_of s) k)) (too_long (ApplyPrefixSet (pair_of t) k)) long
           (λ w. image_refused s k d eight.0 l h w) (λ w. image_refused t k d eight.1 l j w)
         where

@@ -1,4 +1,5 @@
 -- Where the question of parent and child is answered yes, each key of the parent's slot, translated, is bounded by the child: by the calls' answers and bytes.
+use Rattle.std.specs.Prelude.{Result, Ok, Err}
 use mathlib.Core.Path.{◌≡◌, refl, sym, ◌∙◌}
 use mathlib.Core.Bool.{Bool, true, false, cond, not, ◌||◌}
 use mathlib.Core.List.{List, [], ◌∷◌, map}
@@ -10,14 +11,12 @@ use lib.Dec.{eqb}
 use lib.ListN.{length, take, drop, get_or}
 use Rattle.model.specs.declared.Refusal.{Refusal}
 use Rattle.model.specs.declared.Refusal.TheVariants.{Unsorted, EmptyPrefix, TooLong}
-use Rattle.model.specs.declared.Answer.TheVariants as answers
-use Rattle.model.specs.declared.Decided.TheVariants as decided
 use Rattle.model.specs.keys.Key.{Key, Bytes, max_len, too_long}
 use Rattle.model.specs.records.Record.{edge, no_edge, record_size, no_edge_mark, length_field, key_bytes, edge_of, pieces, records, elements, edges}
 use Rattle.model.specs.tables.Tables.{edge_at, IsStrictlySorted, BoundedKey, Route}
 use Rattle.model.specs.translation.Translation.{TranslateKey}
 use Rattle.model.specs.translation.ParentChild.{ParentKeysInChildRange}
-use Rattle.model.specs.calls.Refusals.{◌⇒◌, outcome, first, yes_or_no, over}
+use Rattle.model.specs.calls.Refusals.{◌⇒◌, outcome, first, over}
 use Rattle.model.specs.calls.KeyCalls.{size_causes}
 use Rattle.model.specs.calls.TableCalls.{not_pivot_count, not_edge_count, pivots_read, edges_read, edges_stand, pivot_causes, key_causes, bounded_key_answer}
 use Rattle.model.specs.calls.TranslationCalls.{translate_causes, translate_key_causes, translate_key_answer, translate_key_leaves}
@@ -51,17 +50,17 @@ edge_at_bytes : (e : List ℕ) (i : ℕ) (q : Key) → Bytes e → edge_at (edge
 unfolding edges records
 edge_at_bytes e i q b h = edges_bytes (length e / record_size) e i q b h
 
-module _ (p e c : List ℕ) (slot : ℕ) (y : parent_child_answer p e c slot ≡ decided.Yes) where
+module _ (p e c : List ℕ) (slot : ℕ) (y : parent_child_answer p e c slot ≡ Ok true) where
   yes_none : first (parent_child_causes p e c slot) ≡ none
-  yes_none = unrefused decided.Refused (yes_or_no (ParentKeysInChildRange (elements p) (edges e) (elements c) slot)) (parent_child_causes p e c slot) (λ r f. clash r (sym y ∙ f))
+  yes_none = unrefused Err (Ok (ParentKeysInChildRange (elements p) (edges e) (elements c) slot)) (parent_child_causes p e c slot) (λ r f. clash r (sym y ∙ f))
     where
-      clash : (r : Refusal) → decided.Yes ≡ decided.Refused r → ⊥
+      clash : (r : Refusal) → Ok true ≡ Err r → ⊥
       clash r f = let z : ◌≡◌ {A = ℕ} 0 1 = cc in omega arith
 
   yes_is : ParentKeysInChildRange (elements p) (edges e) (elements c) slot ≡ true
-  yes_is = go (ParentKeysInChildRange (elements p) (edges e) (elements c) slot) (passed decided.Refused _ _ (parent_child_causes p e c slot) yes_none refl ∙ y)
+  yes_is = go (ParentKeysInChildRange (elements p) (edges e) (elements c) slot) (passed Err _ _ (parent_child_causes p e c slot) yes_none refl ∙ y)
     where
-      go : (t : Bool) → yes_or_no t ≡ decided.Yes → t ≡ true
+      go : (t : Bool) → ◌≡◌ {A = Result Bool Refusal} (Ok t) (Ok true) → t ≡ true
       go true f = refl
       go false f = let z : ◌≡◌ {A = ℕ} 0 1 = cc in absurd (omega arith)
 
@@ -87,7 +86,7 @@ module _ (p e c : List ℕ) (slot : ℕ) (y : parent_child_answer p e c slot ≡
   unfolding pivot_causes outcome
   child_right x l = rw (counted, not_too_long x l, read, rises)
 
-  module _ (k : Key) (d : List ℕ) (n : ℕ) (a : Bytes p) (b : Bytes e) (m : Bytes k) (h : translate_key_answer p e k d ≡ answers.Value n) (r : Route (elements p) k ≡ slot) where
+  module _ (k : Key) (d : List ℕ) (n : ℕ) (a : Bytes p) (b : Bytes e) (m : Bytes k) (h : translate_key_answer p e k d ≡ Ok n) (r : Route (elements p) k ≡ slot) where
     no_cause : first (translate_key_causes p e k d) ≡ none
     no_cause = accepted (translate_key_causes p e k d) (length (TranslateKey (elements p) (edges e) k)) (translate_key_answer p e k d) refl n h
 
@@ -111,7 +110,7 @@ module _ (p e c : List ℕ) (slot : ℕ) (y : parent_child_answer p e c slot ≡
         (λ q f. edge_at_bytes e slot q b f) yes_is k m (cut_inside false p e k found) r
 
     -- the child bounds what translate_key wrote for a key of the slot
-    pub parent_child_yes : bounded_key_answer c (take n (translate_key_leaves p e k d)) ≡ decided.Yes
+    pub parent_child_yes : bounded_key_answer c (take n (translate_key_leaves p e k d)) ≡ Ok true
     parent_child_yes =
         rw (image_is, bounded)
-        (sym (passed decided.Refused (yes_or_no true) decided.Yes (key_causes c (TranslateKey (elements p) (edges e) k)) (child_right (TranslateKey (elements p) (edges e) k) image_short) refl))
+        (sym (passed Err (Ok true) (Ok true) (key_causes c (TranslateKey (elements p) (edges e) k)) (child_right (TranslateKey (elements p) (edges e) k) image_short) refl))

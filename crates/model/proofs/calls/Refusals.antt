@@ -4,18 +4,14 @@ use mathlib.Core.Bool.{Bool, true, false, cond, not, ◌&&◌, ◌||◌, or-true
 use mathlib.Core.List.{List, [], ◌∷◌, ◌++◌, append-nil}
 use mathlib.Core.Option.{Option, none, some, some-injective}
 use Prim.Native.Nat.{ℕ}
-use lib.IntN.{ℤ}
 use native.Mathlib.Omega.{arith}
 use lib.Dec.{eqb}
 use borrow.Author.Tests.{lt-ltb, le-ltb, eq-eqb, ne_eqb}
 use Rattle.model.specs.declared.Refusal.{Refusal}
-use Rattle.model.specs.declared.Answer.{Answer}
-use Rattle.model.specs.declared.Answer.TheVariants as answers
-use Rattle.model.specs.declared.Compared.{Compared}
-use Rattle.model.specs.declared.Compared.TheVariants as compared
-use Rattle.model.specs.declared.Routed.{Routed}
-use Rattle.model.specs.declared.Routed.TheVariants as routed
-use Rattle.model.specs.calls.Refusals.{number, Cause, ◌⇒◌, outcome, paired, first, answer, routing, slot_answer}
+use Rattle.std.specs.Prelude.{Result, Ok, Err, IsErr, IsErrAnd}
+use Rattle.std.specs.Result.{result_from_control_flow}
+use Rattle.std.specs.declared.ops.ControlFlow.TheVariants.{Continue, Break}
+use Rattle.model.specs.calls.Refusals.{number, Cause, ◌⇒◌, outcome, paired, first, answer}
 use Rattle.model.proofs.keys.Key.{both}
 
 module _ {A : Type 0} (f : Refusal → A) (v x : A) where
@@ -34,14 +30,9 @@ module _ {A : Type 0} (f : Refusal → A) (v x : A) where
   unfolding outcome
   done e = e
 
-pub value_done : (f : Refusal → Answer) (m n : ℕ) → m ≡ n → answers.Value m ≡ outcome f [] (answers.Value n)
-value_done f m n e = done f _ _ (ap answers.Value e)
-
-pub order_done : (f : Refusal → Compared) (x z : ℤ) → x ≡ z → compared.Order x ≡ outcome f [] (compared.Order z)
-order_done f x z e = done f _ _ (ap compared.Order e)
-
-pub slot_done : (f : Refusal → Routed) (m n : ℕ) → m ≡ n → routed.Slot m ≡ outcome f [] (routed.Slot n)
-slot_done f m n e = done f _ _ (ap routed.Slot e)
+-- with no cause left an answer is that value
+pub value_done : {A : Type 0} (f : Refusal → Result A Refusal) (m n : A) → m ≡ n → Ok m ≡ outcome f [] (Ok n)
+value_done f m n e = done f _ _ (ap Ok e)
 
 -- what the first cause that applies makes of w
 abbrev by_first : {A : Type 0} → (Refusal → A) → Option Refusal → A → A
@@ -165,88 +156,62 @@ lacking r ((b ⇒ s) ∷ cs) ds l h = go b h (lacking r cs ds (both (not (eqb (n
 
 -- ---- what an inner call's answer says of its causes
 
-module _ (cs : List Cause) (n : ℕ) (a : Answer) (e : a ≡ answer cs n) where
+module _ {V : Type 0} (cs : List Cause) (n : V) (a : Result V Refusal) (e : a ≡ answer cs n) where
   -- a value says that no cause applies
-  pub accepted : (m : ℕ) → a ≡ answers.Value m → first cs ≡ none
+  pub accepted : (m : V) → a ≡ Ok m → first cs ≡ none
   accepted m h = go (first cs) refl
     where
       go : (o : Option Refusal) → first cs ≡ o → first cs ≡ none
       go none f = f
       go (some r) f =
-          let p = refused_by answers.Refused (answers.Value n) (answers.Refused r) cs r f refl in
+          let p = refused_by Err (Ok n) (Err r) cs r f refl in
           let z : ◌≡◌ {A = ℕ} 0 1 = cc in absurd (omega arith)
 
   -- a value that is answered is the value of the call
-  pub value_is : (m : ℕ) → a ≡ answers.Value m → m ≡ n
-  value_is m h = let p = passed answers.Refused (answers.Value n) (answers.Value n) cs (accepted m h) refl in cc
+  pub value_is : (m : V) → a ≡ Ok m → m ≡ n
+  value_is m h = let p = passed Err (Ok n) (Ok n) cs (accepted m h) refl in cc
 
   -- a refusal is the first cause that applies
-  pub refused : (r : Refusal) → a ≡ answers.Refused r → first cs ≡ some r
+  pub refused : (r : Refusal) → a ≡ Err r → first cs ≡ some r
   refused r h = go (first cs) refl
     where
       go : (o : Option Refusal) → first cs ≡ o → first cs ≡ some r
       go none f =
-          let p = passed answers.Refused (answers.Value n) (answers.Value n) cs f refl in
+          let p = passed Err (Ok n) (Ok n) cs f refl in
           let z : ◌≡◌ {A = ℕ} 0 1 = cc in absurd (omega arith)
       go (some s) f =
-          let p = refused_by answers.Refused (answers.Value n) (answers.Refused s) cs s f refl in
+          let p = refused_by Err (Ok n) (Err s) cs s f refl in
           f ∙ cc
 
   module _ {A : Type 0} (f : Refusal → A) (v x : A) where
     -- the refusal of an inner call is handed on
-    pub handed_on : (r : Refusal) → a ≡ answers.Refused r → x ≡ f r → x ≡ outcome f cs v
+    pub handed_on : (r : Refusal) → a ≡ Err r → x ≡ f r → x ≡ outcome f cs v
     handed_on r h q = refused_by f v x cs r (refused r h) q
 
     -- also where the outer call has more causes
-    pub handed_on-first : (ds : List Cause) (r : Refusal) → a ≡ answers.Refused r → x ≡ f r → x ≡ outcome f (cs ++ ds) v
+    pub handed_on-first : (ds : List Cause) (r : Refusal) → a ≡ Err r → x ≡ f r → x ≡ outcome f (cs ++ ds) v
     handed_on-first ds r h q = refused_first f v x cs ds r (refused r h) q
 
     -- an inner call that is accepted leaves the value
-    pub call_passed : (m : ℕ) → a ≡ answers.Value m → x ≡ v → x ≡ outcome f cs v
+    pub call_passed : (m : V) → a ≡ Ok m → x ≡ v → x ≡ outcome f cs v
     call_passed m h q = passed f v x cs (accepted m h) q
 
     -- an inner call that is accepted leaves the causes that follow
-    pub call_passed_first : (ds : List Cause) (m : ℕ) → a ≡ answers.Value m → x ≡ outcome f ds v → x ≡ outcome f (cs ++ ds) v
+    pub call_passed_first : (ds : List Cause) (m : V) → a ≡ Ok m → x ≡ outcome f ds v → x ≡ outcome f (cs ++ ds) v
     call_passed_first ds m h q = after f v x cs ds (accepted m h) q
 
--- ---- an inner call that answers a slot
+-- ---- what a `?` says of the call before it
 
-module _ (s : Routed) where
-  pub slot_value : (n : ℕ) → s ≡ routed.Slot n → answers.Value n ≡ slot_answer s
-  unfolding slot_answer
-  slot_value n e = rw e
+pub goes_on : {V : Type 0} (a : Result V Refusal) (b : _) (n : V) → a ≡ result_from_control_flow b → b ≡ Continue n → a ≡ Ok n
+goes_on a b n e h = rw h at e
 
-  pub slot_refusal : (r : Refusal) → s ≡ routed.Refused r → answers.Refused r ≡ slot_answer s
-  unfolding slot_answer
-  slot_refusal r e = rw e
+pub breaks_off : {V : Type 0} (a : Result V Refusal) (b : _) (k : _) → a ≡ result_from_control_flow b → b ≡ Break k → a ≡ Err k.0
+breaks_off a b k e h = rw h at e
 
-  -- its refusal, taken for an answer
-  pub slot_told : (z : Answer) (r : Refusal) → z ≡ slot_answer s → s ≡ routed.Refused r → z ≡ answers.Refused r
-  slot_told z r e h = e ∙ sym (slot_refusal r h)
-
--- its slot, or its refusal, is the answer of the same causes
-as_answer : (cs : List Cause) (n : ℕ) → slot_answer (routing cs n) ≡ answer cs n
-unfolding outcome slot_answer
-as_answer [] n = refl
-as_answer ((true ⇒ r) ∷ cs) n = refl
-as_answer ((false ⇒ r) ∷ cs) n = as_answer cs n
-
-module _ (cs : List Cause) (n : ℕ) (s : Routed) (e : s ≡ routing cs n) where
-  answers_so : slot_answer s ≡ answer cs n
-  answers_so = rw e (as_answer cs n)
-
-  pub slot_accepted : (m : ℕ) → s ≡ routed.Slot m → first cs ≡ none
-  slot_accepted m h = accepted cs n (slot_answer s) answers_so m (sym (slot_value s m h))
-
-  pub slot_is : (m : ℕ) → s ≡ routed.Slot m → m ≡ n
-  slot_is m h = value_is cs n (slot_answer s) answers_so m (sym (slot_value s m h))
-
-  module _ {A : Type 0} (f : Refusal → A) (v x : A) (ds : List Cause) where
-    pub slot_handed_on : (r : Refusal) → s ≡ routed.Refused r → x ≡ f r → x ≡ outcome f (cs ++ ds) v
-    slot_handed_on r h q = handed_on-first cs n (slot_answer s) answers_so f v x ds r (sym (slot_refusal s r h)) q
-
-    pub slot_passed : (m : ℕ) → s ≡ routed.Slot m → x ≡ outcome f ds v → x ≡ outcome f (cs ++ ds) v
-    slot_passed m h q = after f v x cs ds (slot_accepted m h) q
+-- its exit answers the same refusal
+pub exits : {A : Type 0} (x : Result A Refusal) (r : Refusal) → IsErr x × IsErrAnd x (λ (q : Refusal). q ≡ r) → x ≡ Err r
+exits (Ok n) r h = absurd h.1
+exits (Err q) r h = ap Err h.1
 
 -- ---- whether a cause applies, by the tests of the code
 
@@ -275,10 +240,10 @@ not_call_false t b e h = rw e at h
 pub ruleset tests = (lt-ltb, le-ltb, eq-eqb, ne_eqb, or_left, or_right, or_neither, not_holds, not_fails, not_call, not_call_false)
 
 -- an outcome by tests of the code
-pub ruleset answering = (refl, value_done, order_done, slot_done, here, later, done, tests)
+pub ruleset answering = (refl, value_done, here, later, done, tests)
+
+-- what a `?` before or at the goal says
+pub ruleset trying = (goes_on, breaks_off, exits)
 
 -- an outcome after a call whose answer is handed on or passed
-pub ruleset handing_on = (handed_on, handed_on-first, call_passed, call_passed_first, answering)
-
--- an outcome after a call whose slot or refusal is handed on or passed
-pub ruleset slot_handing_on = (slot_told, slot_handed_on, slot_passed, answering)
+pub ruleset handing_on = (handed_on, handed_on-first, call_passed, call_passed_first, trying, answering)

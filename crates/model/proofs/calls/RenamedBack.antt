@@ -1,4 +1,5 @@
 -- A bucket is renamed, and what that wrote is renamed back: the second call is accepted too, and writes the kept entries of the first bucket, byte for byte.
+use Rattle.std.specs.Prelude.{Ok, Err}
 use mathlib.Core.Path.{◌≡◌, refl, sym, ap, ◌∙◌}
 use mathlib.Core.Bool.{Bool, true, false, cond, ◌||◌}
 use mathlib.Core.List.{List, [], ◌∷◌, map}
@@ -10,7 +11,6 @@ use lib.Dec.{leb, eqb}
 use lib.ListN.{length, take, drop, length-drop}
 use lib.Seq.{length-take-le}
 use Rattle.model.specs.declared.Refusal.TheVariants.{NoRoom}
-use Rattle.model.specs.declared.Answer.TheVariants as answers
 use Rattle.model.specs.keys.Key.{Key, Bytes, max_len, too_long, IsPrefix}
 use Rattle.model.specs.records.Record.{reading, key_reading, key_bytes, pieces, joined}
 use Rattle.model.specs.tables.Tables.{all}
@@ -66,7 +66,7 @@ sized_short e h = (both (leb (length e.key) max_len) (eqb (length e.number) numb
 
 -- ---- there and back
 
-module _ (l : List ℕ) (p q : Key) (d : List ℕ) (m : ℕ) (h : translate_bucket_answer l p q d ≡ answers.Value m) where
+module _ (l : List ℕ) (p q : Key) (d : List ℕ) (m : ℕ) (h : translate_bucket_answer l p q d ≡ Ok m) where
   -- what the first call wrote
   abbrev pub renamed : List ℕ
   renamed = take (m * entry_size) (translate_bucket_leaves l p q d)
@@ -95,7 +95,7 @@ module _ (l : List ℕ) (p q : Key) (d : List ℕ) (m : ℕ) (h : translate_buck
   back_short = rw (kept_again, kept_short)
 
   -- renamed back it is accepted wherever the destination holds as many entries, and their count is the same
-  pub back_answers : (d' : List ℕ) → translate_bucket_answer renamed q p d' ≡ cond (no_room (m * entry_size) d') (answers.Refused NoRoom) (answers.Value m)
+  pub back_answers : (d' : List ℕ) → translate_bucket_answer renamed q p d' ≡ cond (no_room (m * entry_size) d') (Err NoRoom) (Ok m)
   back_answers d' =
       let n : length (encode_bucket (new_bucket renamed q p)) ≡ m * entry_size = rw (kept_again, length-encode_bucket (kept (entries l) p) kept_sized, kept_count) in
       by_room renamed q p back_checked back_short d' ∙ rw (n, kept_again, kept_count)
@@ -103,5 +103,5 @@ module _ (l : List ℕ) (p q : Key) (d : List ℕ) (m : ℕ) (h : translate_buck
   -- what is written then are the kept entries of the first bucket, byte for byte
   pub back_leaves : Bytes l → (d' : List ℕ) → m * entry_size ≤ length d' → take (m * entry_size) (translate_bucket_leaves renamed q p d') ≡ joined (kept_bytes p (entry_bytes l))
   back_leaves b d' r =
-      let a : translate_bucket_answer renamed q p d' ≡ answers.Value m = back_answers d' ∙ rw (le-ltb (length d') (m * entry_size) r) in
+      let a : translate_bucket_answer renamed q p d' ≡ Ok m = back_answers d' ∙ rw (le-ltb (length d') (m * entry_size) r) in
       renamed_written renamed q p d' m a ∙ ap encode_bucket kept_again ∙ kept_bytes_lem _ l p checked b

@@ -1,4 +1,5 @@
 -- What accepted calls leave: a renamed range, renamed pivots and filled edges read back, and the pivots pass the check.
+use Rattle.std.specs.Prelude.{Ok}
 use mathlib.Core.Path.{◌≡◌, refl, sym, ◌∙◌}
 use mathlib.Core.Bool.{true, false, not, ◌&&◌, ◌||◌}
 use mathlib.Core.List.{List, [], ◌∷◌}
@@ -10,7 +11,6 @@ use lib.ListN.{length, take}
 use lib.Seq.{length-take-le, get_or-take}
 use Rattle.model.specs.declared.Refusal.{Refusal}
 use Rattle.model.specs.declared.Refusal.TheVariants.{Shape, Malformed, NotPrefix, TooLong, NotBelow, NoRoom}
-use Rattle.model.specs.declared.Answer.TheVariants as answers
 use Rattle.model.specs.keys.Key.{Key, too_long, IsPrefix}
 use Rattle.model.specs.keys.Order.{max, lt}
 use Rattle.model.specs.records.Record.{record_size, element, elements, edges, encode_all, encode_edges}
@@ -38,7 +38,7 @@ wrote cs w d n h e =
 
 -- ---- a range
 
-module _ (l : Key) (r : List ℕ) (p q : Key) (d : List ℕ) (m : ℕ) (h : pivot_pair_answer l r p q d ≡ answers.Value m) where
+module _ (l : Key) (r : List ℕ) (p q : Key) (d : List ℕ) (m : ℕ) (h : pivot_pair_answer l r p q d ≡ Ok m) where
   pair_none : first (pivot_pair_causes l r p q d) ≡ none
   pair_none = accepted (pivot_pair_causes l r p q d) 2 (pivot_pair_answer l r p q d) refl m h
 
@@ -64,7 +64,7 @@ module _ (l : Key) (r : List ℕ) (p q : Key) (d : List ℕ) (m : ℕ) (h : pivo
 
 -- ---- pivots
 
-module _ (v : List ℕ) (p q : Key) (n d : List ℕ) (m : ℕ) (h : pivots_answer v p q n d ≡ answers.Value m) where
+module _ (v : List ℕ) (p q : Key) (n d : List ℕ) (m : ℕ) (h : pivots_answer v p q n d ≡ Ok m) where
   pivots_none : first (pivots_causes v p q n d) ≡ none
   pivots_none = accepted (pivots_causes v p q n d) (length (new_pivots v p q n)) (pivots_answer v p q n d) refl m h
 
@@ -109,7 +109,7 @@ module _ (v : List ℕ) (p q : Key) (n d : List ℕ) (m : ℕ) (h : pivots_answe
 
 -- ---- edges
 
-module _ (p e d : List ℕ) (m : ℕ) (h : edges_answer p e d ≡ answers.Value m) where
+module _ (p e d : List ℕ) (m : ℕ) (h : edges_answer p e d ≡ Ok m) where
   edges_none : first (edges_causes p e d) ≡ none
   edges_none = accepted (edges_causes p e d) (length (new_edges p e)) (edges_answer p e d) refl m h
 

@@ -1,4 +1,6 @@
 -- Tables by their bytes: the record at a place and what it stands for, and what is known of pivots and edges that have none of the causes 1 to 4.
+use Rattle.std.specs.Prelude.{Result, Ok}
+use Rattle.model.specs.declared.Refusal.{Refusal}
 use mathlib.Core.Path.{◌≡◌, refl, ◌∙◌}
 use mathlib.Core.Bool.{Bool, true, false, cond, not, ◌&&◌, ◌||◌, true≢false}
 use mathlib.Core.List.{List, [], ◌∷◌, map}
@@ -11,8 +13,6 @@ use lib.ListN.{length, take, drop, length-map, length-drop}
 use lib.Seq.{length-take-le}
 use Rattle.model.specs.declared.Reading.{Reading}
 use Rattle.model.specs.declared.Reading.TheVariants as reads
-use Rattle.model.specs.declared.Answer.{Answer}
-use Rattle.model.specs.declared.Answer.TheVariants as answers
 use Rattle.model.specs.declared.Refusal.TheVariants.{Shape, Malformed, Unsorted, EmptyPrefix}
 use Rattle.model.specs.keys.Key.{Key, Bytes, is_nil, max_len, too_long}
 use Rattle.model.specs.keys.Order.{key, max, BytesE}
@@ -170,7 +170,7 @@ module _ (shape wrong : Bool) (p : List ℕ) (h : first (pivot_causes shape wron
       short = all_map _ element short_element short_element_lem (records p) (read_elements (records p) causes_read)
 
 -- pivots whose check is passed are well formed
-pub checked_wf : (shape wrong : Bool) (p : List ℕ) (n m : ℕ) (x : Answer) → x ≡ answer (pivot_causes shape wrong p) n → x ≡ answers.Value m
+pub checked_wf : (shape wrong : Bool) (p : List ℕ) (n m : ℕ) (x : Result ℕ Refusal) → x ≡ answer (pivot_causes shape wrong p) n → x ≡ Ok m
     → WFPivots (elements p) ≡ true
 checked_wf shape wrong p n m x e h = causes_wf shape wrong p (accepted (pivot_causes shape wrong p) n x e m h)
 
@@ -252,7 +252,7 @@ pub wrong_key : (shape : Bool) (p e : List ℕ) (k : Key) → first (table_cause
 wrong_key shape p e k h = ltb-false max_len (length k) (table_wrong shape (too_long k) p e h)
 
 -- pivots of a table whose check is passed are well formed
-pub table_checked_wf : (shape wrong : Bool) (p e : List ℕ) (n m : ℕ) (x : Answer) → x ≡ answer (table_causes shape wrong p e) n → x ≡ answers.Value m
+pub table_checked_wf : (shape wrong : Bool) (p e : List ℕ) (n m : ℕ) (x : Result ℕ Refusal) → x ≡ answer (table_causes shape wrong p e) n → x ≡ Ok m
     → WFPivots (elements p) ≡ true
 table_checked_wf shape wrong p e n m x f h = table_wf shape wrong p e (accepted (table_causes shape wrong p e) n x f m h)
 

@@ -1,4 +1,5 @@
 -- A bucket translated with its index: the bucket is the one that translate_bucket writes, the places are where the slots' translated parts begin.
+use Rattle.std.specs.Prelude.{Ok, Err}
 use mathlib.Core.Path.{◌≡◌, refl, sym, ◌∙◌}
 use mathlib.Core.Bool.{true, false, cond, ◌||◌}
 use mathlib.Core.List.{List, [], ◌∷◌}
@@ -8,7 +9,6 @@ use native.Mathlib.Omega.{arith}
 use lib.ListN.{length, take}
 use Rattle.model.specs.declared.Refusal.{Refusal}
 use Rattle.model.specs.declared.Refusal.TheVariants.{TooLong, NoRoom}
-use Rattle.model.specs.declared.Answer.TheVariants as answers
 use Rattle.model.specs.keys.Key.{Key, too_long}
 use Rattle.model.specs.records.Record.{elements}
 use Rattle.model.specs.tables.Tables.{NumBuckets, IsStrictlySorted}
@@ -45,13 +45,13 @@ module _ (p l x : List ℕ) (old new : Key) (h : first (given_causes (too_long o
   -- where all before is accepted and no key gets too long, the answer is 10 if a destination is shorter than what is written to it, and else the count
   pub translate_by_room : (db dx : List ℕ) → bucket_long l old new ≡ false
       → translate_index_answer p l x old new db dx
-      ≡ cond (no_room (length (encode_bucket (new_bucket l old new))) db || no_room (length (encode_index (TranslateIndex (elements p) (entries l) old new))) dx) (answers.Refused NoRoom) (answers.Value (length (new_bucket l old new)))
+      ≡ cond (no_room (length (encode_bucket (new_bucket l old new))) db || no_room (length (encode_index (TranslateIndex (elements p) (entries l) old new))) dx) (Err NoRoom) (Ok (length (new_bucket l old new)))
   unfolding outcome
   translate_by_room db dx s =
-      sym (after answers.Refused _ _ (given_causes (too_long old || too_long new) false p l x) _ h
+      sym (after Err _ _ (given_causes (too_long old || too_long new) false p l x) _ h
       (rw (s, ← needed_written l old new given_rename s, places_length p l old new)))
 
-module _ (p l x : List ℕ) (old new : Key) (db dx : List ℕ) (m : ℕ) (h : translate_index_answer p l x old new db dx ≡ answers.Value m) where
+module _ (p l x : List ℕ) (old new : Key) (db dx : List ℕ) (m : ℕ) (h : translate_index_answer p l x old new db dx ≡ Ok m) where
   no_cause : first (translate_index_causes p l x old new db dx) ≡ none
   no_cause = accepted (translate_index_causes p l x old new db dx) (length (new_bucket l old new)) (translate_index_answer p l x old new db dx) refl m h
 
@@ -92,8 +92,8 @@ module _ (p l x : List ℕ) (old new : Key) (db dx : List ℕ) (m : ℕ) (h : tr
   translate_answers = value_is (translate_index_causes p l x old new db dx) (length (new_bucket l old new)) (translate_index_answer p l x old new db dx) refl m h
 
   -- translate_bucket answers the same
-  pub translate_bucket_answers : translate_bucket_answer l old new db ≡ answers.Value m
-  translate_bucket_answers = rw translate_answers (sym (passed answers.Refused _ _ (translate_bucket_causes l old new db) bucket refl))
+  pub translate_bucket_answers : translate_bucket_answer l old new db ≡ Ok m
+  translate_bucket_answers = rw translate_answers (sym (passed Err _ _ (translate_bucket_causes l old new db) bucket refl))
 
   -- translate_bucket leaves the same bytes
   pub translate_bucket_leaves_lem : translate_index_leaves_bucket p l x old new db dx ≡ translate_bucket_leaves l old new db

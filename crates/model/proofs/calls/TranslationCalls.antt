@@ -1,4 +1,5 @@
 -- The pair that Translate answers: its prefixes have at most 64 bytes, and applying it is TranslateKey, answer and bytes.
+use Rattle.std.specs.Prelude.{Ok, Err}
 use mathlib.Core.Path.{◌≡◌, refl, sym, ap, ◌∙◌}
 use mathlib.Core.Bool.{true, false}
 use mathlib.Core.List.{List}
@@ -7,7 +8,6 @@ use Prim.Native.Nat.{ℕ, ◌≤◌}
 use borrow.Author.Tests.{leb-true, le-leb}
 use lib.ListN.{length}
 use Rattle.model.specs.declared.Refusal.{Refusal}
-use Rattle.model.specs.declared.Answer.TheVariants as answers
 use Rattle.model.specs.keys.Key.{Key, Bytes, max_len, IsPrefix}
 use Rattle.model.specs.records.Record.{Edge, edge, no_edge, elements, edges}
 use Rattle.model.specs.tables.Tables.{pivot_at, edge_at, short_element, short_edge, Route, CutoffForRight}
@@ -57,14 +57,14 @@ module _ (p e : List ℕ) (k : Key) (h : first (translate_causes p e k) ≡ none
   translate_is = sym (passed (λ (_ : Refusal). state_of none) _ _ (translate_causes p e k) h refl)
 
   -- without an edge it is absent
-  pub translate_absent : edge_at (edges e) (Route (elements p) k) ≡ no_edge → translate_answer p e k ≡ answers.Value 0
+  pub translate_absent : edge_at (edges e) (Route (elements p) k) ≡ no_edge → translate_answer p e k ≡ Ok 0
   unfolding Translate edge_pair there_number
-  translate_absent f = sym (passed answers.Refused _ (answers.Value 0) (translate_causes p e k) h (rw f))
+  translate_absent f = sym (passed Err _ (Ok 0) (translate_causes p e k) h (rw f))
 
   -- with one it is there
-  pub translate_there : (q : Key) → edge_at (edges e) (Route (elements p) k) ≡ edge q → translate_answer p e k ≡ answers.Value 1
+  pub translate_there : (q : Key) → edge_at (edges e) (Route (elements p) k) ≡ edge q → translate_answer p e k ≡ Ok 1
   unfolding Translate edge_pair there_number
-  translate_there q f = sym (passed answers.Refused _ (answers.Value 1) (translate_causes p e k) h (rw f))
+  translate_there q f = sym (passed Err _ (Ok 1) (translate_causes p e k) h (rw f))
 
   module _ (b : Bytes k) (d : List ℕ) where
     translated : ApplyPrefixSet (pair_of (translate_pair p e k)) k ≡ TranslateKey (elements p) (edges e) k
@@ -79,7 +79,7 @@ module _ (p e : List ℕ) (k : Key) (h : first (translate_causes p e k) ≡ none
 
     -- applying it answers what TranslateKey answers
     pub translate_apply_answer : apply_answer (translate_pair p e k) k d ≡ translate_key_answer p e k d
-    translate_apply_answer = alike answers.Refused (answers.Value _) ∙ ap (λ (x : Key). outcome answers.Refused (translate_key_causes p e k d) (answers.Value (length x))) translated
+    translate_apply_answer = alike Err (Ok _) ∙ ap (λ (x : Key). outcome Err (translate_key_causes p e k d) (Ok (length x))) translated
 
     -- applying the pair of the key's slot leaves what TranslateKey leaves
     pub translate_apply_leaves : apply_leaves (translate_pair p e k) k d ≡ translate_key_leaves p e k d

@@ -1,4 +1,5 @@
 -- A table that is written as records: its causes and its count, by its bytes.
+use Rattle.std.specs.Prelude.{Result, Ok, Err}
 use mathlib.Core.Path.{◌≡◌, sym, ◌∙◌}
 use mathlib.Core.Bool.{true}
 use mathlib.Core.List.{List}
@@ -6,8 +7,6 @@ use Prim.Native.Nat.{ℕ, ◌*◌, ◌/◌}
 use native.Mathlib.Omega.{arith}
 use lib.ListN.{length}
 use Rattle.model.specs.declared.Refusal.{Refusal}
-use Rattle.model.specs.declared.Answer.{Answer}
-use Rattle.model.specs.declared.Answer.TheVariants as answers
 use Rattle.model.specs.records.Record.{record_size, encode_all, encode_edges}
 use Rattle.model.specs.tables.Tables.{PivotTable, EdgeTable, all, short_element, short_edge}
 use Rattle.model.specs.calls.Refusals.{outcome, answer, leaves, over}
@@ -33,8 +32,8 @@ module _ (pt : PivotTable) (et : EdgeTable) (x y : List ℕ) (a : encode_all pt 
     only_room f v = sym (short_room f v pt et dp de t ∙ rw (← a, ← b, length-encode_all pt s, length-encode_edges et t))
 
     -- what is answered and left by the bytes is so by the table
-    pub table_answered : (z : Answer) → z ≡ answer (room_causes (length x) (length y) dp de) (length x / record_size) → z ≡ answer (write_causes pt et dp de) (length pt)
-    table_answered z h = h ∙ rw bytes_count (only_room answers.Refused (answers.Value (length pt)))
+    pub table_answered : (z : Result ℕ Refusal) → z ≡ answer (room_causes (length x) (length y) dp de) (length x / record_size) → z ≡ answer (write_causes pt et dp de) (length pt)
+    table_answered z h = h ∙ rw bytes_count (only_room Err (Ok (length pt)))
 
     pub table_pivots : (w : List ℕ) → w ≡ leaves (room_causes (length x) (length y) dp de) x dp → w ≡ leaves (write_causes pt et dp de) (encode_all pt) dp
     table_pivots w h = h ∙ rw a (only_room (λ (r : Refusal). dp) (over x dp))

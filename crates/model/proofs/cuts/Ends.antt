@@ -1,4 +1,5 @@
 -- Where a call that writes a table ends: at its first cause, or with the records written.
+use Rattle.std.specs.Prelude.{Ok, Err}
 use mathlib.Core.Path.{◌≡◌, refl, sym, ap, ◌∙◌}
 use mathlib.Core.Bool.{Bool, true, false, cond, ◌||◌, true≢false}
 use mathlib.Core.List.{List}
@@ -9,7 +10,6 @@ use borrow.Author.Tests.{le-ltb}
 use lib.ListN.{length}
 use Rattle.model.specs.declared.Refusal.{Refusal}
 use Rattle.model.specs.declared.Refusal.TheVariants.{TooLong, NoRoom}
-use Rattle.model.specs.declared.Answer.TheVariants as answers
 use Rattle.model.specs.keys.Key.{Bytes}
 use Rattle.model.specs.records.Record.{record_size, elements, edges, encode_all, encode_edges}
 use Rattle.model.specs.tables.Tables.{PivotTable, EdgeTable, all, short_edge, WFPivots, WFEdges}
@@ -28,14 +28,14 @@ use Rattle.model.proofs.cuts.CutEdges.{edges_say}
 module _ (cs : List Cause) (n : ℕ) (w x dp de : List ℕ) where
   -- a call ends at the first cause that applies
   pub ends_refused : (r : Refusal) → first cs ≡ some r → end_of (answer cs n) (leaves cs w dp) (leaves cs x de) ≡ refused r
-  ends_refused r h = rw (sym (refused_by answers.Refused (answers.Value n) _ cs r h refl))
+  ends_refused r h = rw (sym (refused_by Err (Ok n) _ cs r h refl))
 
   -- or where it has written, at the heads of its destinations
   pub ends_wrote : first cs ≡ none → n * record_size ≡ length w → (n - 1) * record_size ≡ length x
       → end_of (answer cs n) (leaves cs w dp) (leaves cs x de) ≡ wrote n w x
   ends_wrote h a b =
       rw (
-        sym (passed answers.Refused (answers.Value n) _ cs h refl),
+        sym (passed Err (Ok n) _ cs h refl),
         sym (passed (λ (r : Refusal). dp) (over w dp) _ cs h refl),
         sym (passed (λ (r : Refusal). de) (over x de) _ cs h refl),
         a,
@@ -46,7 +46,7 @@ module _ (cs : List Cause) (n : ℕ) (w x dp de : List ℕ) where
 
 -- where it is accepted no cause applies
 pub accepted_none : (cs : List Cause) (n : ℕ) (y z : List ℕ) → accepted (end_of (answer cs n) y z) ≡ true → first cs ≡ none
-accepted_none cs n y z a = unrefused answers.Refused (answers.Value n) cs (λ r q. true≢false (sym a ∙ rw q))
+accepted_none cs n y z a = unrefused Err (Ok n) cs (λ r q. true≢false (sym a ∙ rw q))
 
 pub wrote_none : (cs : List Cause) (n : ℕ) (y z : List ℕ) (m : ℕ) (p e : List ℕ) → end_of (answer cs n) y z ≡ wrote m p e → first cs ≡ none
 wrote_none cs n y z m p e a = accepted_none cs n y z (ap accepted a)

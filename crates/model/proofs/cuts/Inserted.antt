@@ -1,4 +1,5 @@
 -- What is asked of insertion holds: an accepted one leaves a table that translates and is cut as the old one, and it is refused for length where a cut at the key is.
+use Rattle.std.specs.Prelude.{Ok, Err}
 use mathlib.Core.Path.{◌≡◌, refl, sym, ap, subst, ◌∙◌}
 use mathlib.Core.Bool.{Bool, true, false}
 use mathlib.Core.List.{List}
@@ -8,7 +9,6 @@ use native.Mathlib.Omega.{arith}
 use borrow.Author.Tests.{not-false}
 use lib.ListN.{length}
 use Rattle.model.specs.declared.Refusal.TheVariants.{TooLong}
-use Rattle.model.specs.declared.Decided.TheVariants as decided
 use Rattle.model.specs.keys.Key.{Key, Bytes}
 use Rattle.model.specs.records.Record.{record_size, elements, edges, encode_all, encode_edges}
 use Rattle.model.specs.tables.Tables.{PivotTable, EdgeTable, all, short_edge, WFPivots, WFEdges, BytesT, BoundedKey, Route}
@@ -120,7 +120,7 @@ module _ (p e : List ℕ) (k : Key) (b : Bytes p) (g : Bytes k) (h : first (new_
   pub leaves_inserted : Inserted p e k (length pt) (encode_all pt) (encode_edges et)
   leaves_inserted =
       record {
-        table = sym (passed decided.Refused decided.Yes decided.Yes _ new_table refl);
+        table = sym (passed Err (Ok true) (Ok true) _ new_table refl);
         pivots = pivots_back;
         count = insert_length (elements p) k (Route (elements p) k) (omega (arith, (insert_strictly p e k h).slot));
         keys = new_keys;

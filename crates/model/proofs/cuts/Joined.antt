@@ -1,4 +1,5 @@
 -- What is asked of a join holds: an accepted one leaves a table whose keys are those of the two halves, translated as there, and which is cut back into them.
+use Rattle.std.specs.Prelude.{Ok, Err}
 use mathlib.Core.Path.{◌≡◌, refl, sym, ap, subst, ◌∙◌}
 use mathlib.Core.Logic.{◌⊎◌, inl, inr}
 use mathlib.Core.Bool.{Bool, true, false, cond, not, true≢false}
@@ -10,7 +11,6 @@ use borrow.Author.Tests.{le-ltb, lt-ltb, leb-true}
 use lib.ListN.{length, drop}
 use Rattle.model.specs.declared.Refusal.{Refusal}
 use Rattle.model.specs.declared.Refusal.TheVariants.{NoRoom, TooManyPivots, NotMeeting}
-use Rattle.model.specs.declared.Decided.TheVariants as decided
 use Rattle.model.specs.keys.Key.{Key, Bytes, max_len, too_long}
 use Rattle.model.specs.keys.Order.{key, BytesE, lte}
 use Rattle.model.specs.records.Record.{record_size, elements, edges, encode_all, encode_edges}
@@ -113,7 +113,7 @@ module _ (p e q f : List ℕ) (h : first (meeting_causes p e q f) ≡ none) wher
         (join_preserved can (old_bytes_lem true) (old_bytes_lem false) key_bytes_lem left j d (rw (half_pivots left) at v)))
 
     -- each key is one of exactly one half
-    joined_keys : (j : Key) → Bytes j → bounded_key_answer (encode_all pt) j ≡ decided.Yes
+    joined_keys : (j : Key) → Bytes j → bounded_key_answer (encode_all pt) j ≡ Ok true
         → OnlyIn p e q (encode_all pt) (encode_edges et) j ⊎ OnlyIn q f p (encode_all pt) (encode_edges et) j
     joined_keys j d y = go (lte (key k) (key j)) refl
       where
@@ -141,7 +141,7 @@ module _ (p e q f : List ℕ) (h : first (meeting_causes p e q f) ≡ none) wher
             })
 
     -- and no other key is one of either
-    other_keys : (j : Key) → bounded_key_answer (encode_all pt) j ≡ decided.No → (bounded_key_answer p j ≡ decided.No) × (bounded_key_answer q j ≡ decided.No)
+    other_keys : (j : Key) → bounded_key_answer (encode_all pt) j ≡ Ok false → (bounded_key_answer p j ≡ Ok false) × (bounded_key_answer q j ≡ Ok false)
     other_keys j n =
         let s : (too_long j ≡ false) × (BoundedKey pt j ≡ false) = rw pivots_back at (says_bounded (encode_all pt) (encode_edges et) new_table j false n) in (
           bounded_says p e (old_table true) j s.0 false (join_first_bounded can j ∙ rw s.1),
@@ -170,7 +170,7 @@ module _ (p e q f : List ℕ) (h : first (meeting_causes p e q f) ≡ none) wher
     leaves_joined : Joined p e q f (length pt) (encode_all pt) (encode_edges et)
     leaves_joined =
         record {
-          table = sym (passed decided.Refused decided.Yes decided.Yes _ new_table refl);
+          table = sym (passed Err (Ok true) (Ok true) _ new_table refl);
           pivots = join_pivots_bytes p e q f (join_tables p e q f h) bp bq;
           edges = join_edges_bytes p e q f (join_tables p e q f h) be bf;
           count = join_length can;
@@ -198,7 +198,7 @@ module _ (p e q f : List ℕ) (h : first (meeting_causes p e q f) ≡ none) wher
 -- ---- the claim
 
 -- two tables that pass the check and meet
-module _ (p e q f : List ℕ) (y : wf_edges_answer p e ≡ decided.Yes) (z : wf_edges_answer q f ≡ decided.Yes) (m : last_pivot (elements p) ≡ pivot_at (elements q) 0) where
+module _ (p e q f : List ℕ) (y : wf_edges_answer p e ≡ Ok true) (z : wf_edges_answer q f ≡ Ok true) (m : last_pivot (elements p) ≡ pivot_at (elements q) 0) where
   only_many : first (meeting_causes p e q f) ≡ first ((too_many_pivots (joined_pivots p q) ⇒ TooManyPivots) ∷ [])
   only_many = meeting_first p e q f (answered_yes p e y) (answered_yes q f z) m
 

@@ -1,4 +1,5 @@
 -- Insertion is refused with 8 where a cut at the key is, unless 12 comes first, and nowhere else.
+use Rattle.std.specs.Prelude.{Err}
 use mathlib.Core.Path.{◌≡◌, refl, sym, ◌∙◌}
 use mathlib.Core.Logic.{◌⊎◌, inl, inr, ⊎_elim}
 use mathlib.Core.Bool.{Bool, true, false, ◌&&◌, true≢false}
@@ -9,7 +10,6 @@ use native.Mathlib.Omega.{arith}
 use lib.ListN.{length}
 use Rattle.model.specs.declared.Refusal.{Refusal}
 use Rattle.model.specs.declared.Refusal.TheVariants.{TooManyPivots, TooLong}
-use Rattle.model.specs.declared.Answer.TheVariants as answers
 use Rattle.model.specs.keys.Key.{Key, too_long}
 use Rattle.model.specs.keys.Order.{key, lte, lt}
 use Rattle.model.specs.records.Record.{record_size, elements, edges}
@@ -78,7 +78,7 @@ module _ (p e : List ℕ) (k : Key) where
     cut_long h f =
         let cs = edge_slot_causes p e k (inside left (elements p) k) in
         let w = long_says (cut_pivots left p k) (cut_edges left p e k) d.for_pivots d.for_edges f in
-        sym (after answers.Refused _ _ cs _ h (refused_by answers.Refused _ _ _ TooLong w refl))
+        sym (after Err _ _ cs _ h (refused_by Err _ _ _ TooLong w refl))
 
     -- at a pivot it has the old edges, and they are short
     pivot_short : first (edge_slot_causes p e k (inside left (elements p) k)) ≡ none → is_pivot (elements p) k ≡ true → all short_edge (cut_edges left p e k) ≡ true
@@ -114,11 +114,11 @@ module _ (p e : List ℕ) (k : Key) where
     insert_long : first (new_pivot_causes p e k) ≡ none → all short_edge (inserted_edges p e k) ≡ false → long_insert p e k d
     insert_long h f =
         let w = long_says (inserted_pivots p k) (inserted_edges p e k) d.for_pivots d.for_edges f in
-        sym (after answers.Refused _ _ (new_pivot_causes p e k) _ h (refused_by answers.Refused _ _ _ TooLong w refl))
+        sym (after Err _ _ (new_pivot_causes p e k) _ h (refused_by Err _ _ _ TooLong w refl))
 
     -- where a cut is refused with 8 the key has none of its causes but 12
     new_unless : (left : Bool) → first (edge_slot_causes p e k (inside left (elements p) k)) ≡ none → all short_edge (cut_edges left p e k) ≡ false
-        → (insert_answer p e k d.for_pivots d.for_edges ≡ answers.Refused TooManyPivots → ⊥) → first (new_pivot_causes p e k) ≡ none
+        → (insert_answer p e k d.for_pivots d.for_edges ≡ Err TooManyPivots → ⊥) → first (new_pivot_causes p e k) ≡ none
     unfolding outcome
     new_unless left h f g = go (is_pivot (elements p) k) (too_many_pivots (inserted_pivots p k)) refl refl
       where
@@ -128,8 +128,8 @@ module _ (p e : List ℕ) (k : Key) where
         table : first (table_causes false (too_long k) p e) ≡ none
         table = cut_table left p e k h
 
-        answered : (r : Refusal) → first (new_pivot_causes p e k) ≡ some r → insert_answer p e k d.for_pivots d.for_edges ≡ answers.Refused r
-        answered r w = sym (refused_first answers.Refused _ _ (new_pivot_causes p e k) written r w refl)
+        answered : (r : Refusal) → first (new_pivot_causes p e k) ≡ some r → insert_answer p e k d.for_pivots d.for_edges ≡ Err r
+        answered r w = sym (refused_first Err _ _ (new_pivot_causes p e k) written r w refl)
 
         go : (t u : Bool) → is_pivot (elements p) k ≡ t → too_many_pivots (inserted_pivots p k) ≡ u → first (new_pivot_causes p e k) ≡ none
         go true u i j = absurd (true≢false (sym (pivot_short left d h i) ∙ f))
@@ -153,7 +153,7 @@ module _ (p e : List ℕ) (k : Key) where
           (long_edge _ _ (sym (insert_short p e k w.0) ∙ w.1))
 
       inserted : (left : Bool) (c : Dests) → long_cut left p e k c
-          → (insert_answer p e k d.for_pivots d.for_edges ≡ answers.Refused TooManyPivots → ⊥) → long_insert p e k d
+          → (insert_answer p e k d.for_pivots d.for_edges ≡ Err TooManyPivots → ⊥) → long_insert p e k d
       inserted left c h g =
           let w = cut_8 left c h in
           let new = new_unless d left w.0 w.1 g in

@@ -1,4 +1,5 @@
 -- The two cuts of a table at a key, joined: the table where the key is a pivot, and else what an insertion of the key makes of it.
+use Rattle.std.specs.Prelude.{Ok, Err}
 use mathlib.Core.Path.{◌≡◌, sym, ap, ◌∙◌}
 use mathlib.Core.Logic.{◌⊎◌, inl, inr}
 use mathlib.Core.Bool.{true, false, true≢false}
@@ -10,7 +11,6 @@ use borrow.Author.Tests.{le-ltb}
 use lib.ListN.{length, take, drop, take-append-drop}
 use Rattle.model.specs.declared.Refusal.{Refusal}
 use Rattle.model.specs.declared.Refusal.TheVariants.{TooManyPivots}
-use Rattle.model.specs.declared.Answer.TheVariants as answers
 use Rattle.model.specs.keys.Key.{Key, Bytes, too_long}
 use Rattle.model.specs.keys.Order.{Element, key, lt}
 use Rattle.model.specs.records.Record.{elements, edges, encode_all, encode_edges}
@@ -196,7 +196,7 @@ module _ (p e : List ℕ) (k : Key) (c d : Dests) (m n : ℕ) (l x r y : List �
 
     new : AsInserted p e k l x r y
     new dp de = (
-      same answers.Refused _ _ dp de (ap (λ (t : PivotTable). answers.Value (length t)) new_pivots_lem),
+      same Err _ _ dp de (ap (λ (t : PivotTable). Ok (length t)) new_pivots_lem),
       same (λ (_ : Refusal). dp) _ _ dp de (ap (λ (t : PivotTable). over (encode_all t) dp) new_pivots_lem),
       same (λ (_ : Refusal). de) _ _ dp de (ap (λ (t : EdgeTable). over (encode_edges t) de) new_edges_lem),
     )

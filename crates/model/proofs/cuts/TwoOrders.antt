@@ -1,4 +1,5 @@
 -- Demand 3: the two orders of cutting at l and r, by the calls' own answers and bytes.
+use Rattle.std.specs.Prelude.{Ok}
 use mathlib.Core.Path.{◌≡◌, refl, sym, ap, ◌∙◌}
 use mathlib.Core.Bool.{Bool, true, false, true≢false, false≢true}
 use mathlib.Core.List.{List}
@@ -7,7 +8,6 @@ use Prim.Native.Nat.{ℕ, ◌≤◌}
 use native.Mathlib.Omega.{arith}
 use lib.ListN.{length}
 use Rattle.model.specs.declared.Refusal.TheVariants.{NoRoom}
-use Rattle.model.specs.declared.Decided.TheVariants as decided
 use Rattle.model.specs.keys.Key.{Key, Bytes, max_len}
 use Rattle.model.specs.keys.Order.{key, lte, lt}
 use Rattle.model.specs.records.Record.{elements, edges, encode_all, encode_edges}
@@ -47,7 +47,7 @@ not_for_room pt et = go (all short_edge et)
     go true x = true≢false (ap accepted x)
     go false x = let z : ◌≡◌ {A = ℕ} 0 1 = cc in absurd (omega arith)
 
-module _ (p e : List ℕ) (l r : Key) (b : Bytes p) (bl : Bytes l) (br : Bytes r) (y : wf_edges_answer p e ≡ decided.Yes)
+module _ (p e : List ℕ) (l r : Key) (b : Bytes p) (bl : Bytes l) (br : Bytes r) (y : wf_edges_answer p e ≡ Ok true)
     (ml : length l ≤ max_len) (mr : length r ≤ max_len) (h : lt (key l) (key r) ≡ true)
     (f : lte (pivot_at (elements p) 0) (key l) ≡ true) (g : lte (key r) (last_pivot (elements p)) ≡ true) where
   -- the plain cut

@@ -1,4 +1,5 @@
 -- The list loses nothing: well-formed tables with the same list have the same pivots and edges, and where two inputs have the same list and one of them is a table, they are the same bytes.
+use Rattle.std.specs.Prelude.{Ok}
 use mathlib.Core.Path.{◌≡◌, refl, sym, ap, ◌∙◌}
 use mathlib.Core.Bool.{true, false, false≢true}
 use mathlib.Core.List.{List, [], ◌∷◌, ◌++◌}
@@ -10,7 +11,6 @@ use lib.Dec.{eqb}
 use lib.ListN.{length, take, drop, length-append, take-append-drop}
 use lib.Seq.{length-take-le, drop-append_seam}
 use Rattle.model.specs.declared.Refusal.{Refusal}
-use Rattle.model.specs.declared.Answer.TheVariants as answers
 use Rattle.model.specs.keys.Key.{Bytes}
 use Rattle.model.specs.keys.Order.{Element}
 use Rattle.model.specs.records.Record.{Edge, record_size, length_field, elements, edges, encode_all, encode_edges}
@@ -137,7 +137,7 @@ module _ (s s' : List ℕ) (h : first (list_causes s) ≡ none) (e : shelf_list 
 
 -- ---- the call
 
-module _ (s d : List ℕ) (n : ℕ) (h : list_table_answer s d ≡ answers.Value n) where
+module _ (s d : List ℕ) (n : ℕ) (h : list_table_answer s d ≡ Ok n) where
   -- it answers the list's length
   pub listed_length : n ≡ length (shelf_list s)
   listed_length = value_is (list_table_causes s d) (length (shelf_list s)) (list_table_answer s d) refl n h
@@ -150,6 +150,6 @@ module _ (s d : List ℕ) (n : ℕ) (h : list_table_answer s d ≡ answers.Value
       rw (listed_length, ← left) (take_over (shelf_list s) d)
 
 -- where it writes the same text of two inputs, and one of them is a table, they are the same bytes
-pub listed_one : (s s' d d' : List ℕ) (n n' : ℕ) → list_table_answer s d ≡ answers.Value n → list_table_answer s' d' ≡ answers.Value n'
+pub listed_one : (s s' d d' : List ℕ) (n n' : ℕ) → list_table_answer s d ≡ Ok n → list_table_answer s' d' ≡ Ok n'
     → take n (list_table_leaves s d) ≡ take n' (list_table_leaves s' d') → first (list_causes s) ≡ none → Bytes s → Bytes s' → s ≡ s'
 listed_one s s' d d' n n' a a' e h b b' = list_one s s' h (sym (listed s d n a) ∙ e ∙ listed s' d' n' a') b b'

@@ -1,13 +1,12 @@
 -- Buckets: when causes 1 and 2 apply to lent entries, and for each call its causes in order, its answer, and what it leaves in its destination.
-use Rattle.std.specs.Prelude.{Bool, not, ◌&&◌, ◌||◌, List, [], ◌∷◌, ◌++◌, ℕ, ◌*◌, ◌/◌, ◌%◌, eqb, leb, ltb, length}
+use Rattle.std.specs.Prelude.{Bool, not, ◌&&◌, ◌||◌, List, [], ◌∷◌, ◌++◌, ℕ, ◌*◌, ◌/◌, ◌%◌, eqb, leb, ltb, length, Result}
+use Rattle.model.specs.declared.Refusal.{Refusal}
 use Rattle.model.specs.declared.Refusal.TheVariants.{Shape, Malformed, TooLong, NoRoom}
-use Rattle.model.specs.declared.Answer.{Answer}
-use Rattle.model.specs.declared.Decided.{Decided}
 use Rattle.model.specs.keys.Key.{Key, max_len, too_long}
 use Rattle.model.specs.records.Record.{reading, key_reading}
 use Rattle.model.specs.tables.Tables.{all}
 use Rattle.model.specs.buckets.Bucket.{Entry, Bucket, number_size, entry_size_by, entry_size, max_entries, entry_record, entry_bytes_by, entries, encode_bucket, TranslateBucket}
-use Rattle.model.specs.calls.Refusals.{Cause, ◌⇒◌, answer, decision, leaves}
+use Rattle.model.specs.calls.Refusals.{Cause, ◌⇒◌, answer, leaves}
 
 -- "A slice isn't whole records, a count is outside its limits": entries, at most 512, whose numbers have n bytes or four
 unfoldable pub not_entry_count_by : ℕ → List ℕ → Bool
@@ -55,7 +54,7 @@ translate_bucket_causes l p q d =
     rename_causes l p q ++ (bucket_long l p q ⇒ TooLong) ∷ (bucket_full l p q (length d) ⇒ NoRoom) ∷ []
 
 -- "Answer: the count kept"
-abbrev pub translate_bucket_answer : List ℕ → Key → Key → List ℕ → Answer
+abbrev pub translate_bucket_answer : List ℕ → Key → Key → List ℕ → Result ℕ Refusal
 translate_bucket_answer l p q d = answer (translate_bucket_causes l p q d) (length (new_bucket l p q))
 
 abbrev pub translate_bucket_leaves : List ℕ → Key → Key → List ℕ → List ℕ
@@ -63,5 +62,5 @@ translate_bucket_leaves l p q d = leaves (translate_bucket_causes l p q d) (enco
 
 -- ---- translate_bucket_will_fit: "It refuses 1 and 2, and else says no exactly where the call answers 8 or 10"; n is the destination's length
 
-abbrev pub will_fit_answer : List ℕ → Key → Key → ℕ → Decided
-will_fit_answer l p q n = decision (rename_causes l p q) (not (bucket_long l p q || bucket_full l p q n))
+abbrev pub will_fit_answer : List ℕ → Key → Key → ℕ → Result Bool Refusal
+will_fit_answer l p q n = answer (rename_causes l p q) (not (bucket_long l p q || bucket_full l p q n))

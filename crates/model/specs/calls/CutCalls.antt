@@ -1,7 +1,7 @@
 -- The cuts: for each call its causes in order, its answer, and what it leaves in each destination.
-use Rattle.std.specs.Prelude.{Bool, not, ◌||◌, List, [], ◌∷◌, ◌++◌, ℕ, ◌*◌, length}
+use Rattle.std.specs.Prelude.{Bool, not, ◌||◌, List, [], ◌∷◌, ◌++◌, ℕ, ◌*◌, length, Result}
+use Rattle.model.specs.declared.Refusal.{Refusal}
 use Rattle.model.specs.declared.Refusal.TheVariants.{TooLong, NoRoom}
-use Rattle.model.specs.declared.Answer.{Answer}
 use Rattle.model.specs.keys.Key.{Key}
 use Rattle.model.specs.records.Record.{record_size, elements, edges, encode_all, encode_edges}
 use Rattle.model.specs.tables.Tables.{PivotTable, EdgeTable, all, short_edge}
@@ -32,7 +32,7 @@ cut_causes left p e k dp de =
     edge_slot_causes p e k (inside left (elements p) k) ++ write_causes (cut_pivots left p k) (cut_edges left p e k) dp de
 
 -- "Answer: the number of pivots written"
-abbrev pub cut_answer : Bool → List ℕ → List ℕ → Key → List ℕ → List ℕ → Answer
+abbrev pub cut_answer : Bool → List ℕ → List ℕ → Key → List ℕ → List ℕ → Result ℕ Refusal
 cut_answer left p e k dp de = answer (cut_causes left p e k dp de) (length (cut_pivots left p k))
 
 abbrev pub cut_leaves_pivots : Bool → List ℕ → List ℕ → Key → List ℕ → List ℕ → List ℕ

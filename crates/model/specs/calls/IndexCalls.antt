@@ -1,7 +1,7 @@
 -- The calls on a bucket with its index: for each its causes in order, its answer, and what it leaves in each destination.
-use Rattle.std.specs.Prelude.{Bool, false, not, ◌&&◌, ◌||◌, List, [], ◌∷◌, ◌++◌, ℕ, ◌*◌, eqb, ltb, length}
+use Rattle.std.specs.Prelude.{Bool, false, not, ◌&&◌, ◌||◌, List, [], ◌∷◌, ◌++◌, ℕ, ◌*◌, eqb, ltb, length, Result}
+use Rattle.model.specs.declared.Refusal.{Refusal}
 use Rattle.model.specs.declared.Refusal.TheVariants.{OutOfRange, NoSuchSlot, TooLong, NoRoom, EntriesUnsorted, WrongIndex}
-use Rattle.model.specs.declared.Answer.{Answer}
 use Rattle.model.specs.keys.Key.{Key, too_long, IsPrefix}
 use Rattle.model.specs.records.Record.{elements}
 use Rattle.model.specs.tables.Tables.{PivotTable, NumBuckets, all, BoundedKey}
@@ -43,13 +43,13 @@ given_causes wrong outside p l x = entries_causes wrong outside p l ++ ((wrong_i
 abbrev pub build_index_causes : List ℕ → List ℕ → List ℕ → List Cause
 build_index_causes p l d = entries_causes false false p l ++ ((no_room (length (elements p) * place_size) d ⇒ NoRoom) ∷ [])
 
-abbrev pub build_index_answer : List ℕ → List ℕ → List ℕ → Answer
+abbrev pub build_index_answer : List ℕ → List ℕ → List ℕ → Result ℕ Refusal
 build_index_answer p l d = answer (build_index_causes p l d) (length (entries l))
 
 abbrev pub build_index_leaves : List ℕ → List ℕ → List ℕ → List ℕ
 build_index_leaves p l d = leaves (build_index_causes p l d) (index_bytes p l) d
 
-abbrev pub check_index_answer : List ℕ → List ℕ → List ℕ → Answer
+abbrev pub check_index_answer : List ℕ → List ℕ → List ℕ → Result ℕ Refusal
 check_index_answer p l x = answer (given_causes false false p l x) (length (entries l))
 
 -- ---- slot_entries: how many entries slot i has, and the part of the bucket beside it
@@ -57,7 +57,7 @@ check_index_answer p l x = answer (given_causes false false p l x) (length (entr
 abbrev pub slot_entries_causes : List ℕ → List ℕ → List ℕ → ℕ → List Cause
 slot_entries_causes p l x i = given_causes false false p l x ++ ((not (ltb i (NumBuckets (elements p))) ⇒ NoSuchSlot) ∷ [])
 
-abbrev pub slot_entries_answer : List ℕ → List ℕ → List ℕ → ℕ → Answer
+abbrev pub slot_entries_answer : List ℕ → List ℕ → List ℕ → ℕ → Result ℕ Refusal
 slot_entries_answer p l x i = answer (slot_entries_causes p l x i) (length (slot_entries (elements p) (entries l) i))
 
 abbrev pub slot_entries_part : List ℕ → List ℕ → List ℕ → ℕ → List ℕ
@@ -77,7 +77,7 @@ cut_index_causes left p l x k db dx =
     given_causes (too_long k) (not (inside left (elements p) k)) p l x
     ++ room_causes (length (cut_entries left l k) * entry_size) (length (cut_pivots left p k) * place_size) db dx
 
-abbrev pub cut_index_answer : Bool → List ℕ → List ℕ → List ℕ → Key → List ℕ → List ℕ → Answer
+abbrev pub cut_index_answer : Bool → List ℕ → List ℕ → List ℕ → Key → List ℕ → List ℕ → Result ℕ Refusal
 cut_index_answer left p l x k db dx = answer (cut_index_causes left p l x k db dx) (length (cut_entries left l k))
 
 abbrev pub cut_index_leaves_bucket : Bool → List ℕ → List ℕ → List ℕ → Key → List ℕ → List ℕ → List ℕ
@@ -93,7 +93,7 @@ translate_index_causes p l x old new db dx =
     given_causes (too_long old || too_long new) false p l x
     ++ ((bucket_long l old new ⇒ TooLong) ∷ room_causes (needed_bytes l old new) (length (elements p) * place_size) db dx)
 
-abbrev pub translate_index_answer : List ℕ → List ℕ → List ℕ → Key → Key → List ℕ → List ℕ → Answer
+abbrev pub translate_index_answer : List ℕ → List ℕ → List ℕ → Key → Key → List ℕ → List ℕ → Result ℕ Refusal
 translate_index_answer p l x old new db dx = answer (translate_index_causes p l x old new db dx) (length (new_bucket l old new))
 
 abbrev pub translate_index_leaves_bucket : List ℕ → List ℕ → List ℕ → Key → Key → List ℕ → List ℕ → List ℕ

@@ -1,7 +1,7 @@
 -- Insertion of a pivot: its causes in order, its answer, and what it leaves in each destination.
-use Rattle.std.specs.Prelude.{Bool, false, not, List, [], ◌∷◌, ◌++◌, ℕ, ◌+◌, ltb, length}
+use Rattle.std.specs.Prelude.{Bool, false, not, List, [], ◌∷◌, ◌++◌, ℕ, ◌+◌, ltb, length, Result}
+use Rattle.model.specs.declared.Refusal.{Refusal}
 use Rattle.model.specs.declared.Refusal.TheVariants.{OutOfRange, AlreadyPivot, TooManyPivots}
-use Rattle.model.specs.declared.Answer.{Answer}
 use Rattle.model.specs.keys.Key.{Key, too_long}
 use Rattle.model.specs.keys.Order.{key}
 use Rattle.model.specs.records.Record.{elements, edges, encode_all, encode_edges}
@@ -35,7 +35,7 @@ abbrev pub insert_causes : List ℕ → List ℕ → Key → List ℕ → List �
 insert_causes p e k dp de = new_pivot_causes p e k ++ write_causes (inserted_pivots p k) (inserted_edges p e k) dp de
 
 -- "Insertion, like every later call that writes a table, answers the number of pivots written"
-abbrev pub insert_answer : List ℕ → List ℕ → Key → List ℕ → List ℕ → Answer
+abbrev pub insert_answer : List ℕ → List ℕ → Key → List ℕ → List ℕ → Result ℕ Refusal
 insert_answer p e k dp de = answer (insert_causes p e k dp de) (length (inserted_pivots p k))
 
 abbrev pub insert_leaves_pivots : List ℕ → List ℕ → Key → List ℕ → List ℕ → List ℕ

@@ -1,7 +1,7 @@
 -- Two tables put together: the causes in order, the answer, and what is left in each destination.
-use Rattle.std.specs.Prelude.{List, [], ◌∷◌, ◌++◌, false, ℕ, ◌*◌, length}
+use Rattle.std.specs.Prelude.{List, [], ◌∷◌, ◌++◌, false, ℕ, ◌*◌, length, Result}
+use Rattle.model.specs.declared.Refusal.{Refusal}
 use Rattle.model.specs.declared.Refusal.TheVariants.{NotMeeting, TooManyPivots}
-use Rattle.model.specs.declared.Answer.{Answer}
 use Rattle.model.specs.records.Record.{record_size, elements, edges, encode_all, encode_edges}
 use Rattle.model.specs.tables.Tables.{PivotTable, EdgeTable}
 use Rattle.model.specs.cuts.Join.{not_meeting, JoinPivots, JoinEdges}
@@ -37,7 +37,7 @@ join_causes p e q f dp de =
     ++ room_causes (length (joined_pivots p q) * record_size) (length (joined_edges e f) * record_size) dp de
 
 -- "like every later call that writes a table, answers the number of pivots written"
-abbrev pub join_answer : List ℕ → List ℕ → List ℕ → List ℕ → List ℕ → List ℕ → Answer
+abbrev pub join_answer : List ℕ → List ℕ → List ℕ → List ℕ → List ℕ → List ℕ → Result ℕ Refusal
 join_answer p e q f dp de = answer (join_causes p e q f dp de) (length (joined_pivots p q))
 
 abbrev pub join_leaves_pivots : List ℕ → List ℕ → List ℕ → List ℕ → List ℕ → List ℕ → List ℕ

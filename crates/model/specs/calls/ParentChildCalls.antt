@@ -1,11 +1,11 @@
 -- The question of parent and child: its causes in order, and its answer.
-use Rattle.std.specs.Prelude.{not, ◌||◌, List, [], ◌∷◌, ◌++◌, ℕ, ltb, length}
+use Rattle.std.specs.Prelude.{Bool, not, ◌||◌, List, [], ◌∷◌, ◌++◌, ℕ, ltb, length, Result}
+use Rattle.model.specs.declared.Refusal.{Refusal}
 use Rattle.model.specs.declared.Refusal.TheVariants.{Unsorted, EmptyPrefix, NoSuchSlot, TooLong}
-use Rattle.model.specs.declared.Decided.{Decided}
 use Rattle.model.specs.records.Record.{records, elements, edges}
 use Rattle.model.specs.tables.Tables.{IsStrictlySorted}
 use Rattle.model.specs.translation.ParentChild.{slot_bounds, ParentKeysInChildRange}
-use Rattle.model.specs.calls.Refusals.{Cause, ◌⇒◌, decision}
+use Rattle.model.specs.calls.Refusals.{Cause, ◌⇒◌, answer}
 use Rattle.model.specs.calls.TableCalls.{not_pivot_count, not_edge_count, pivots_read, edges_read, edges_stand, pivot_causes}
 use Rattle.model.specs.calls.RenamingCalls.{long_bounds}
 
@@ -22,6 +22,6 @@ parent_child_causes p e c slot =
     ++ (not (ltb slot (length (edges e))) ⇒ NoSuchSlot) ∷
     (long_bounds (slot_bounds (elements p) (edges e) slot) ⇒ TooLong) ∷ []
 
-abbrev pub parent_child_answer : List ℕ → List ℕ → List ℕ → ℕ → Decided
+abbrev pub parent_child_answer : List ℕ → List ℕ → List ℕ → ℕ → Result Bool Refusal
 parent_child_answer p e c slot =
-    decision (parent_child_causes p e c slot) (ParentKeysInChildRange (elements p) (edges e) (elements c) slot)
+    answer (parent_child_causes p e c slot) (ParentKeysInChildRange (elements p) (edges e) (elements c) slot)

@@ -1,16 +1,8 @@
 -- What a call answers: its result, or the first cause that applies in the call's ordered list.
-use Rattle.std.specs.Prelude.{Bool, true, false, cond, ◌&&◌, List, [], ◌∷◌, ◌++◌, ℕ, leb, ℤ, length, drop}
+use Rattle.std.specs.Prelude.{Bool, true, false, cond, ◌&&◌, List, [], ◌∷◌, ◌++◌, ℕ, leb, length, drop, Result, Ok, Err}
 use Rattle.std.proofs.Math.Option.{Option, none, some}
 use Rattle.model.specs.declared.Refusal.{Refusal}
 use Rattle.model.specs.declared.Refusal.TheVariants.{Shape, Malformed, Unsorted, EmptyPrefix, OutOfRange, NoSuchSlot, NotPrefix, TooLong, NotBelow, NoRoom, AlreadyPivot, TooManyPivots, NotMeeting, EntriesUnsorted, WrongIndex}
-use Rattle.model.specs.declared.Answer.{Answer}
-use Rattle.model.specs.declared.Answer.TheVariants as answers
-use Rattle.model.specs.declared.Compared.{Compared}
-use Rattle.model.specs.declared.Compared.TheVariants as compared
-use Rattle.model.specs.declared.Decided.{Decided}
-use Rattle.model.specs.declared.Decided.TheVariants as decided
-use Rattle.model.specs.declared.Routed.{Routed}
-use Rattle.model.specs.declared.Routed.TheVariants as routed
 
 infix 5 ◌⇒◌
 -- the numbers of the table "Refusals", and 11 to 15: "the key is already a pivot", "the table would pass 64 pivots", "the meeting pivots differ or are max", "entries don't rise strictly", "a given index isn't the one that belongs to table and bucket"
@@ -74,51 +66,26 @@ first causes = outcome some causes none
 
 -- ---- answers: the call's value, or its refusal
 
-abbrev pub answer : List Cause → ℕ → Answer
-answer causes n = outcome answers.Refused causes (answers.Value n)
-
-abbrev pub comparison : List Cause → ℤ → Compared
-comparison causes z = outcome compared.Refused causes (compared.Order z)
-
-abbrev pub yes_or_no : Bool → Decided
-yes_or_no true = decided.Yes
-yes_or_no false = decided.No
-
-abbrev pub decision : List Cause → Bool → Decided
-decision causes b = outcome decided.Refused causes (yes_or_no b)
-
-abbrev pub routing : List Cause → ℕ → Routed
-routing causes n = outcome routed.Refused causes (routed.Slot n)
+abbrev pub answer : {A : Type 0} → List Cause → A → Result A Refusal
+answer causes value = outcome Err causes (Ok value)
 
 -- ---- answers at the boundary: a number, and a value behind a pointer
 
 -- 0 where the call is accepted, else the refusal's number
-unfoldable pub answer_number : Answer → ℕ
-answer_number (answers.Value n) = 0
-answer_number (answers.Refused r) = number r
-
-unfoldable pub compared_number : Compared → ℕ
-compared_number (compared.Order z) = 0
-compared_number (compared.Refused r) = number r
+unfoldable pub answer_number : {A : Type 0} → Result A Refusal → ℕ
+answer_number (Ok value) = 0
+answer_number (Err r) = number r
 
 -- what stands behind the pointer afterwards: "A refusal leaves that number as it was"
-unfoldable pub told : Answer → ℕ → ℕ
-told (answers.Value n) old = n
-told (answers.Refused r) old = old
+unfoldable pub told : {A : Type 0} → Result A Refusal → A → A
+told (Ok value) old = value
+told (Err r) old = old
 
-unfoldable pub told_order : Compared → ℤ → ℤ
-told_order (compared.Order z) old = z
-told_order (compared.Refused r) old = old
-
--- "yes" and "no" are 1 and 0, and a slot its number
-unfoldable pub decided_answer : Decided → Answer
-decided_answer decided.Yes = answers.Value 1
-decided_answer decided.No = answers.Value 0
-decided_answer (decided.Refused r) = answers.Refused r
-
-unfoldable pub slot_answer : Routed → Answer
-slot_answer (routed.Slot n) = answers.Value n
-slot_answer (routed.Refused r) = answers.Refused r
+-- "yes" and "no" are 1 and 0
+unfoldable pub decided_answer : Result Bool Refusal → Result ℕ Refusal
+decided_answer (Ok true) = Ok 1
+decided_answer (Ok false) = Ok 0
+decided_answer (Err r) = Err r
 
 -- ---- bytes
 

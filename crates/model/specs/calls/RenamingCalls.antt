@@ -1,7 +1,7 @@
 -- Pivots and edges under another prefix: for each call its causes in order, its answer, and what it leaves in its destination.
-use Rattle.std.specs.Prelude.{Bool, false, not, ◌&&◌, ◌||◌, List, [], ◌∷◌, ◌++◌, ℕ, ◌*◌, ◌-◌, length, take}
+use Rattle.std.specs.Prelude.{Bool, false, not, ◌&&◌, ◌||◌, List, [], ◌∷◌, ◌++◌, ℕ, ◌*◌, ◌-◌, length, take, Result}
+use Rattle.model.specs.declared.Refusal.{Refusal}
 use Rattle.model.specs.declared.Refusal.TheVariants.{Shape, Malformed, NotPrefix, TooLong, NotBelow, NoRoom}
-use Rattle.model.specs.declared.Answer.{Answer}
 use Rattle.model.specs.keys.Key.{Key, too_long, IsPrefix}
 use Rattle.model.specs.keys.Order.{Element, key, lt}
 use Rattle.model.specs.records.Record.{record_size, element, elements, edges, encode_all, encode_edges}
@@ -34,7 +34,7 @@ pivot_pair_causes l r p q d =
     (not (lt (key l) (element r)) ⇒ NotBelow) ∷
     (no_room (2 * record_size) d ⇒ NoRoom) ∷ []
 
-abbrev pub pivot_pair_answer : Key → List ℕ → Key → Key → List ℕ → Answer
+abbrev pub pivot_pair_answer : Key → List ℕ → Key → Key → List ℕ → Result ℕ Refusal
 pivot_pair_answer l r p q d = answer (pivot_pair_causes l r p q d) 2
 
 abbrev pub pivot_pair_leaves : Key → List ℕ → Key → Key → List ℕ → List ℕ
@@ -66,7 +66,7 @@ pivots_causes v p q n d =
     (not (lt (last_translated v p q) (element n)) ⇒ NotBelow) ∷
     (no_room (length (new_pivots v p q n) * record_size) d ⇒ NoRoom) ∷ []
 
-abbrev pub pivots_answer : List ℕ → Key → Key → List ℕ → List ℕ → Answer
+abbrev pub pivots_answer : List ℕ → Key → Key → List ℕ → List ℕ → Result ℕ Refusal
 pivots_answer v p q n d = answer (pivots_causes v p q n d) (length (new_pivots v p q n))
 
 abbrev pub pivots_leaves : List ℕ → Key → Key → List ℕ → List ℕ → List ℕ
@@ -80,7 +80,7 @@ new_edges p e = TranslateEdges (edges e) (elements p)
 abbrev pub edges_causes : List ℕ → List ℕ → List ℕ → List Cause
 edges_causes p e d = table_causes false false p e ++ (no_room (length (new_edges p e) * record_size) d ⇒ NoRoom) ∷ []
 
-abbrev pub edges_answer : List ℕ → List ℕ → List ℕ → Answer
+abbrev pub edges_answer : List ℕ → List ℕ → List ℕ → Result ℕ Refusal
 edges_answer p e d = answer (edges_causes p e d) (length (new_edges p e))
 
 abbrev pub edges_leaves : List ℕ → List ℕ → List ℕ → List ℕ

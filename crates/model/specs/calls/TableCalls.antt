@@ -1,15 +1,13 @@
 -- The calls on tables: when causes 1 to 4 apply to lent bytes, and for each call its causes in order and its answer.
-use Rattle.std.specs.Prelude.{Bool, true, false, cond, not, ◌&&◌, ◌||◌, List, [], ◌∷◌, ◌++◌, ℕ, ◌+◌, ◌*◌, ◌/◌, ◌%◌, eqb, leb, ltb, length}
+use Rattle.std.specs.Prelude.{Bool, true, false, cond, not, ◌&&◌, ◌||◌, List, [], ◌∷◌, ◌++◌, ℕ, ◌+◌, ◌*◌, ◌/◌, ◌%◌, eqb, leb, ltb, length, Result}
+use Rattle.model.specs.declared.Refusal.{Refusal}
 use Rattle.model.specs.declared.Refusal.TheVariants.{Shape, Malformed, Unsorted, EmptyPrefix, OutOfRange, NoSuchSlot, NotBelow, NoRoom}
-use Rattle.model.specs.declared.Answer.{Answer}
-use Rattle.model.specs.declared.Decided.{Decided}
-use Rattle.model.specs.declared.Routed.{Routed}
 use Rattle.model.specs.keys.Key.{Key, is_nil, too_long}
 use Rattle.model.specs.keys.Order.{key, is_key, lt}
 use Rattle.model.specs.records.Record.{record_size, reading, key_reading, element_reading, edge_reading, records, element, elements, edges, encode_all}
 use Rattle.model.specs.tables.Tables.{PivotTable, min_pivots, max_pivots, all, pivot_at, IsStrictlySorted, WFEdges, ContainsAllKeys, ContainsRange}
 use Rattle.model.specs.tables.Tables.{BoundedKey, ValidLeftCutOffKey, PivotInsertable, GetKey, InitPivotTable, Route, CutoffForLeft, CutoffForRight}
-use Rattle.model.specs.calls.Refusals.{Cause, ◌⇒◌, answer, decision, routing, leaves, part}
+use Rattle.model.specs.calls.Refusals.{Cause, ◌⇒◌, answer, leaves, part}
 use Rattle.model.specs.calls.KeyCalls.{not_record, not_element, no_room}
 
 -- "A slice isn't whole records, a count is outside its limits"
@@ -47,37 +45,37 @@ table_causes shape wrong p e =
     ++ ((not (edges_stand p e) ⇒ EmptyPrefix) ∷ [])
 
 -- WFPivots and WFEdges: "yes, or the number"
-abbrev pub wf_pivots_answer : List ℕ → Decided
-wf_pivots_answer p = decision (pivot_causes false false p) true
+abbrev pub wf_pivots_answer : List ℕ → Result Bool Refusal
+wf_pivots_answer p = answer (pivot_causes false false p) true
 
-abbrev pub wf_edges_answer : List ℕ → List ℕ → Decided
-wf_edges_answer p e = decision (table_causes false false p e) true
+abbrev pub wf_edges_answer : List ℕ → List ℕ → Result Bool Refusal
+wf_edges_answer p e = answer (table_causes false false p e) true
 
 -- ---- questions
 
-abbrev pub contains_all_keys_answer : List ℕ → Decided
-contains_all_keys_answer p = decision (pivot_causes false false p) (ContainsAllKeys (elements p))
+abbrev pub contains_all_keys_answer : List ℕ → Result Bool Refusal
+contains_all_keys_answer p = answer (pivot_causes false false p) (ContainsAllKeys (elements p))
 
 -- the range is a key and an element, the key below the element
 abbrev pub contains_range_causes : List ℕ → Key → List ℕ → List Cause
 contains_range_causes p l r =
     pivot_causes (not_record r) (too_long l || not_element r) p ++ ((not (lt (key l) (element r)) ⇒ NotBelow) ∷ [])
 
-abbrev pub contains_range_answer : List ℕ → Key → List ℕ → Decided
-contains_range_answer p l r = decision (contains_range_causes p l r) (ContainsRange (elements p) (key l) (element r))
+abbrev pub contains_range_answer : List ℕ → Key → List ℕ → Result Bool Refusal
+contains_range_answer p l r = answer (contains_range_causes p l r) (ContainsRange (elements p) (key l) (element r))
 
 -- a table and a key
 abbrev pub key_causes : List ℕ → Key → List Cause
 key_causes p k = pivot_causes false (too_long k) p
 
-abbrev pub bounded_key_answer : List ℕ → Key → Decided
-bounded_key_answer p k = decision (key_causes p k) (BoundedKey (elements p) k)
+abbrev pub bounded_key_answer : List ℕ → Key → Result Bool Refusal
+bounded_key_answer p k = answer (key_causes p k) (BoundedKey (elements p) k)
 
-abbrev pub valid_left_cut_off_key_answer : List ℕ → Key → Decided
-valid_left_cut_off_key_answer p k = decision (key_causes p k) (ValidLeftCutOffKey (elements p) k)
+abbrev pub valid_left_cut_off_key_answer : List ℕ → Key → Result Bool Refusal
+valid_left_cut_off_key_answer p k = answer (key_causes p k) (ValidLeftCutOffKey (elements p) k)
 
-abbrev pub pivot_insertable_answer : List ℕ → ℕ → Key → Decided
-pivot_insertable_answer p i k = decision (key_causes p k) (PivotInsertable (elements p) i k)
+abbrev pub pivot_insertable_answer : List ℕ → ℕ → Key → Result Bool Refusal
+pivot_insertable_answer p i k = answer (key_causes p k) (PivotInsertable (elements p) i k)
 
 -- ---- GetKey: "a place isn't below the pivot count or holds max"
 
@@ -87,7 +85,7 @@ no_key_at pt i = not (ltb i (length pt) && is_key (pivot_at pt i))
 abbrev pub get_key_causes : List ℕ → ℕ → List Cause
 get_key_causes p i = pivot_causes false false p ++ ((no_key_at (elements p) i ⇒ NoSuchSlot) ∷ [])
 
-abbrev pub get_key_answer : List ℕ → ℕ → Answer
+abbrev pub get_key_answer : List ℕ → ℕ → Result ℕ Refusal
 get_key_answer p i = answer (get_key_causes p i) (length (GetKey (elements p) i))
 
 abbrev pub get_key_part : List ℕ → ℕ → List ℕ
@@ -98,7 +96,7 @@ get_key_part p i = part (get_key_causes p i) (GetKey (elements p) i)
 abbrev pub init_pivot_table_causes : List ℕ → List Cause
 init_pivot_table_causes d = (no_room (min_pivots * record_size) d ⇒ NoRoom) ∷ []
 
-abbrev pub init_pivot_table_answer : List ℕ → Answer
+abbrev pub init_pivot_table_answer : List ℕ → Result ℕ Refusal
 init_pivot_table_answer d = answer (init_pivot_table_causes d) min_pivots
 
 abbrev pub init_pivot_table_leaves : List ℕ → List ℕ
@@ -109,14 +107,14 @@ init_pivot_table_leaves d = leaves (init_pivot_table_causes d) (encode_all InitP
 abbrev pub slot_causes : List ℕ → Key → Bool → List Cause
 slot_causes p k inside = key_causes p k ++ ((not inside ⇒ OutOfRange) ∷ [])
 
-abbrev pub route_answer : List ℕ → Key → Routed
-route_answer p k = routing (slot_causes p k (BoundedKey (elements p) k)) (Route (elements p) k)
+abbrev pub route_answer : List ℕ → Key → Result ℕ Refusal
+route_answer p k = answer (slot_causes p k (BoundedKey (elements p) k)) (Route (elements p) k)
 
-abbrev pub cutoff_for_left_answer : List ℕ → Key → Routed
-cutoff_for_left_answer p k = routing (slot_causes p k (ValidLeftCutOffKey (elements p) k)) (CutoffForLeft (elements p) k)
+abbrev pub cutoff_for_left_answer : List ℕ → Key → Result ℕ Refusal
+cutoff_for_left_answer p k = answer (slot_causes p k (ValidLeftCutOffKey (elements p) k)) (CutoffForLeft (elements p) k)
 
-abbrev pub cutoff_for_right_answer : List ℕ → Key → Routed
-cutoff_for_right_answer p k = routing (slot_causes p k (BoundedKey (elements p) k)) (CutoffForRight (elements p) k)
+abbrev pub cutoff_for_right_answer : List ℕ → Key → Result ℕ Refusal
+cutoff_for_right_answer p k = answer (slot_causes p k (BoundedKey (elements p) k)) (CutoffForRight (elements p) k)
 
 -- pivots p, edges e and a key k: causes 1 to 4, and 5 where the key isn't inside
 abbrev pub edge_slot_causes : List ℕ → List ℕ → Key → Bool → List Cause

@@ -1,6 +1,6 @@
 -- The translation of a key in a table: for each call its causes in order, its answer, and what it leaves in its destination.
-use Rattle.std.specs.Prelude.{List, ◌++◌, ℕ, length}
-use Rattle.model.specs.declared.Answer.{Answer}
+use Rattle.std.specs.Prelude.{List, ◌++◌, ℕ, length, Result}
+use Rattle.model.specs.declared.Refusal.{Refusal}
 use Rattle.model.specs.keys.Key.{Key}
 use Rattle.model.specs.records.Record.{elements, edges}
 use Rattle.model.specs.tables.Tables.{BoundedKey}
@@ -15,7 +15,7 @@ use Rattle.model.specs.calls.PairCalls.{pair_answer, pair_beside}
 abbrev pub translate_causes : List ℕ → List ℕ → Key → List Cause
 translate_causes p e k = edge_slot_causes p e k (BoundedKey (elements p) k)
 
-abbrev pub translate_answer : List ℕ → List ℕ → Key → Answer
+abbrev pub translate_answer : List ℕ → List ℕ → Key → Result ℕ Refusal
 translate_answer p e k = pair_answer (translate_causes p e k) (Translate (elements p) (edges e) k)
 
 abbrev pub translate_pair : List ℕ → List ℕ → Key → PairState
@@ -26,7 +26,7 @@ abbrev pub translate_key_causes : List ℕ → List ℕ → Key → List ℕ →
 translate_key_causes p e k d =
     translate_causes p e k ++ size_causes (TranslateKey (elements p) (edges e) k) d
 
-abbrev pub translate_key_answer : List ℕ → List ℕ → Key → List ℕ → Answer
+abbrev pub translate_key_answer : List ℕ → List ℕ → Key → List ℕ → Result ℕ Refusal
 translate_key_answer p e k d = answer (translate_key_causes p e k d) (length (TranslateKey (elements p) (edges e) k))
 
 abbrev pub translate_key_leaves : List ℕ → List ℕ → Key → List ℕ → List ℕ

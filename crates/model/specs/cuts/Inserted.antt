@@ -1,8 +1,6 @@
 -- What is asked of insertion, as one claim, `Inserts`, about what the calls answer and leave. Its proof is in proofs/cuts/Inserted.
-use Rattle.std.specs.Prelude.{◌≡◌, ◌⊎◌, Bool, true, false, List, ℕ, ◌+◌, ◌*◌, ◌≤◌, ◌<◌, length}
+use Rattle.std.specs.Prelude.{◌≡◌, ◌⊎◌, Bool, true, false, List, ℕ, ◌+◌, ◌*◌, ◌≤◌, ◌<◌, length, Ok, Err}
 use Rattle.model.specs.declared.Refusal.TheVariants.{TooLong, TooManyPivots}
-use Rattle.model.specs.declared.Answer.TheVariants as answers
-use Rattle.model.specs.declared.Decided.TheVariants as decided
 use Rattle.model.specs.keys.Key.{Key, Bytes}
 use Rattle.model.specs.keys.Order.{key}
 use Rattle.model.specs.records.Record.{record_size, elements}
@@ -31,7 +29,7 @@ CutAlike left p e p' e' k =
 -- what an accepted insertion leaves: n pivots with their edges, in the records p' and e'
 pub record Inserted (p e : List ℕ) (k : Key) (n : ℕ) (p' e' : List ℕ) : Type 0 where
   -- it passes the check, and so can be lent to the next call
-  pub table : wf_edges_answer p' e' ≡ decided.Yes
+  pub table : wf_edges_answer p' e' ≡ Ok true
   -- its pivots, which therefore rise, are the old ones and the key
   pub pivots : elements p' ≡ InsertPivot (elements p) (Route (elements p) k + 1) k
   pub count : n ≡ length (elements p) + 1
@@ -47,16 +45,16 @@ Kept p e k (refused x) = Unit {0}
 
 -- an answer is refusal 8
 abbrev pub long_insert : List ℕ → List ℕ → Key → Dests → Type 0
-long_insert p e k d = insert_answer p e k d.for_pivots d.for_edges ≡ answers.Refused TooLong
+long_insert p e k d = insert_answer p e k d.for_pivots d.for_edges ≡ Err TooLong
 
 abbrev pub long_cut : Bool → List ℕ → List ℕ → Key → Dests → Type 0
-long_cut left p e k d = cut_answer left p e k d.for_pivots d.for_edges ≡ answers.Refused TooLong
+long_cut left p e k d = cut_answer left p e k d.for_pivots d.for_edges ≡ Err TooLong
 
 -- insertion is refused with 8 exactly where the left or the right cut at the key is, unless 12 comes first; destinations don't matter
 pub record LongAsCuts (p e : List ℕ) (k : Key) (d : Dests) : Type 0 where
   pub cut : (l r : Dests) → long_insert p e k d → long_cut true p e k l ⊎ long_cut false p e k r
   pub inserted : (left : Bool) (c : Dests) → long_cut left p e k c
-      → (insert_answer p e k d.for_pivots d.for_edges ≡ answers.Refused TooManyPivots → ⊥) → long_insert p e k d
+      → (insert_answer p e k d.for_pivots d.for_edges ≡ Err TooManyPivots → ⊥) → long_insert p e k d
 
 -- it is accepted where both cuts at the key are, the key is no pivot, there are fewer than 64, and there is room for one more
 abbrev pub Taken : List ℕ → List ℕ → Key → Dests → Type 0

@@ -1,7 +1,6 @@
 -- What is asked of a join, as two claims about what the calls answer and leave: `Joins`, of any two tables, and `Rejoins`, of the two cuts of one. Their proofs are in proofs/cuts/Joined and proofs/cuts/Rejoined.
-use Rattle.std.specs.Prelude.{◌≡◌, ◌⊎◌, Bool, true, false, List, ◌++◌, ℕ, ◌+◌, ◌≤◌, ◌<◌, length, drop}
+use Rattle.std.specs.Prelude.{◌≡◌, ◌⊎◌, Bool, true, false, List, ◌++◌, ℕ, ◌+◌, ◌≤◌, ◌<◌, length, drop, Ok}
 use Rattle.model.specs.declared.Refusal.TheVariants.{TooManyPivots, NotMeeting}
-use Rattle.model.specs.declared.Decided.TheVariants as decided
 use Rattle.model.specs.keys.Key.{Key, Bytes}
 use Rattle.model.specs.keys.Order.{key}
 use Rattle.model.specs.records.Record.{record_size, elements}
@@ -20,8 +19,8 @@ join d p e q f =
 
 -- j is in the range of p and not in that of q, and p' and e' translate it as p and e do, answer and bytes, 8 included
 pub record OnlyIn (p e q p' e' : List ℕ) (j : Key) : Type 0 where
-  pub inside : bounded_key_answer p j ≡ decided.Yes
-  pub outside : bounded_key_answer q j ≡ decided.No
+  pub inside : bounded_key_answer p j ≡ Ok true
+  pub outside : bounded_key_answer q j ≡ Ok false
   pub alike : TranslatedAlike p e p' e' j
 
 -- the cut of p' and e' at k gives p and e, byte for byte, where there is room for them
@@ -31,15 +30,15 @@ GivesBack left k p' e' p e = (d : Dests) → NoShorter p e d → cut left k d p'
 -- what an accepted join of p, e and q, f leaves: n pivots with their edges, in the records p' and e'
 pub record Joined (p e q f : List ℕ) (n : ℕ) (p' e' : List ℕ) : Type 0 where
   -- it passes the check, and so can be lent to the next call
-  pub table : wf_edges_answer p' e' ≡ decided.Yes
+  pub table : wf_edges_answer p' e' ≡ Ok true
   -- "The joined table has that pivot once and all edges in turn", byte for byte
   pub pivots : p' ≡ p ++ drop record_size q
   pub edges : e' ≡ e ++ f
   pub count : n + 1 ≡ length (elements p) + length (elements q)
   -- "A key in its range is in the range of exactly one half and translates as there"
-  pub keys : (j : Key) → Bytes j → bounded_key_answer p' j ≡ decided.Yes → OnlyIn p e q p' e' j ⊎ OnlyIn q f p p' e' j
+  pub keys : (j : Key) → Bytes j → bounded_key_answer p' j ≡ Ok true → OnlyIn p e q p' e' j ⊎ OnlyIn q f p p' e' j
   -- a key that is not in its range is in that of neither half
-  pub others : (j : Key) → bounded_key_answer p' j ≡ decided.No → (bounded_key_answer p j ≡ decided.No) × (bounded_key_answer q j ≡ decided.No)
+  pub others : (j : Key) → bounded_key_answer p' j ≡ Ok false → (bounded_key_answer p j ≡ Ok false) × (bounded_key_answer q j ≡ Ok false)
   -- cut at the meeting pivot it is the two halves again
   pub halves : (k : Key) → pivot_at (elements q) 0 ≡ key k → GivesBack true k p' e' p e × GivesBack false k p' e' q f
 
@@ -51,16 +50,16 @@ JoinKept p e q f (refused x) = Unit {0}
 -- it is accepted where both tables pass the check, the one ends with the pivot that the other begins with, there are at most 64 and there is room; that pivot can't be max
 abbrev pub JoinTaken : List ℕ → List ℕ → List ℕ → List ℕ → Dests → Type 0
 JoinTaken p e q f d =
-    wf_edges_answer p e ≡ decided.Yes → wf_edges_answer q f ≡ decided.Yes → last_pivot (elements p) ≡ pivot_at (elements q) 0
+    wf_edges_answer p e ≡ Ok true → wf_edges_answer q f ≡ Ok true → last_pivot (elements p) ≡ pivot_at (elements q) 0
     → length (elements p) + length (elements q) ≤ max_pivots + 1
     → NoShorter (p ++ drop record_size q) (e ++ f) d
     → accepted (join d p e q f) ≡ true
 
 -- where both pass the check, it is refused with 13 if they don't meet, and if they do, with 12 where there are more than 64
 pub record JoinRefused (p e q f : List ℕ) (d : Dests) : Type 0 where
-  pub apart : wf_edges_answer p e ≡ decided.Yes → wf_edges_answer q f ≡ decided.Yes → (last_pivot (elements p) ≡ pivot_at (elements q) 0 → ⊥)
+  pub apart : wf_edges_answer p e ≡ Ok true → wf_edges_answer q f ≡ Ok true → (last_pivot (elements p) ≡ pivot_at (elements q) 0 → ⊥)
       → join d p e q f ≡ refused NotMeeting
-  pub many : wf_edges_answer p e ≡ decided.Yes → wf_edges_answer q f ≡ decided.Yes → last_pivot (elements p) ≡ pivot_at (elements q) 0
+  pub many : wf_edges_answer p e ≡ Ok true → wf_edges_answer q f ≡ Ok true → last_pivot (elements p) ≡ pivot_at (elements q) 0
       → max_pivots + 1 < length (elements p) + length (elements q) → join d p e q f ≡ refused TooManyPivots
 
 -- for all pivots p and q and edges e and f lent, and all destinations

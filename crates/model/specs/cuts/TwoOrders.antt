@@ -1,10 +1,7 @@
 -- Demand 3 as one claim, `Demand3`, about what the calls of CutCalls answer and leave. Its proof is in proofs/cuts/TwoOrders.
-use Rattle.std.specs.Prelude.{◌≡◌, Bool, true, false, List, ℕ, ◌*◌, ◌-◌, ◌≤◌, length, take}
+use Rattle.std.specs.Prelude.{◌≡◌, Bool, true, false, List, ℕ, ◌*◌, ◌-◌, ◌≤◌, length, take, Result, Ok, Err}
 use Rattle.model.specs.declared.Refusal.{Refusal}
 use Rattle.model.specs.declared.Refusal.TheVariants.{TooLong, NoRoom}
-use Rattle.model.specs.declared.Answer.{Answer}
-use Rattle.model.specs.declared.Answer.TheVariants as answers
-use Rattle.model.specs.declared.Decided.TheVariants as decided
 use Rattle.model.specs.keys.Key.{Key, Bytes, max_len}
 use Rattle.model.specs.keys.Order.{key, lte, lt}
 use Rattle.model.specs.records.Record.{record_size, elements, edges, encode_all, encode_edges}
@@ -34,9 +31,9 @@ accepted (wrote n p e) = true
 accepted (refused x) = false
 
 -- the records that a cut wrote: as many pivots as it answers, and one edge fewer
-abbrev pub end_of : Answer → List ℕ → List ℕ → End
-end_of (answers.Value n) p e = wrote n (take (n * record_size) p) (take ((n - 1) * record_size) e)
-end_of (answers.Refused x) p e = refused x
+abbrev pub end_of : Result ℕ Refusal → List ℕ → List ℕ → End
+end_of (Ok n) p e = wrote n (take (n * record_size) p) (take ((n - 1) * record_size) e)
+end_of (Err x) p e = refused x
 
 -- a cut at k into d of pivots p and edges e
 abbrev pub cut : Bool → Key → Dests → List ℕ → List ℕ → End
@@ -100,7 +97,7 @@ abbrev pub Demand3 : Type 0
 Demand3 =
     (p e : List ℕ) (l r : Key) (a b c d : Dests) → Bytes p → Bytes l → Bytes r
     -- "For every well-formed table with its edges"
-    → wf_edges_answer p e ≡ decided.Yes
+    → wf_edges_answer p e ≡ Ok true
     -- "and all keys l and r of at most 64 bytes"
     → length l ≤ max_len
     → length r ≤ max_len

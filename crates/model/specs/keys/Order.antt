@@ -1,5 +1,7 @@
 -- Elements and their order: the Keyspace of the source, whose bodies document 01 gives.
 use Rattle.std.specs.Prelude.{Bool, true, false, cond, not, ◌&&◌, List, [], ◌∷◌, ℕ, suc, ◌-◌, ltb, ℤ, pos, negsuc}
+use Rattle.std.specs.declared.cmp.Ordering.{Ordering}
+use Rattle.std.specs.declared.cmp.Ordering.TheVariants.{Less, Equal, Greater}
 use Rattle.model.specs.keys.Key.{Key, Bytes}
 
 -- Keyspace.Element: a key, or Max_Element
@@ -41,6 +43,12 @@ same a b = lte a b && lte b a
 -- KeyspaceImpl.cmp: "Compare answers −1, 0 or 1; max equals max"
 unfoldable pub cmp : Element → Element → ℤ
 cmp a b = cond (lt a b) (negsuc 0) (cond (lt b a) (pos 1) (pos 0))
+
+-- an order as the code has it, by that number
+abbrev pub sign : Ordering → ℤ
+sign Less = negsuc 0
+sign Equal = pos 0
+sign Greater = pos 1
 
 -- p is not above e or, where strict, below it
 abbrev pub passes : Bool → Element → Element → Bool

@@ -1,8 +1,7 @@
 -- "The shelf list": the text of one table, to the byte.
-use Rattle.std.specs.Prelude.{Bool, false, cond, not, List, [], ◌∷◌, ◌++◌, ℕ, suc, ◌+◌, ◌*◌, ◌-◌, ◌/◌, ◌%◌, eqb, ltb, length, take, drop}
+use Rattle.std.specs.Prelude.{Bool, false, cond, not, List, [], ◌∷◌, ◌++◌, ℕ, suc, ◌+◌, ◌*◌, ◌-◌, ◌/◌, ◌%◌, eqb, ltb, length, take, drop, Result}
 use Rattle.model.specs.declared.Refusal.{Refusal}
 use Rattle.model.specs.declared.Refusal.TheVariants.{NoRoom}
-use Rattle.model.specs.declared.Answer.{Answer}
 use Rattle.model.specs.keys.Key.{Key}
 use Rattle.model.specs.keys.Order.{Element, key, max}
 use Rattle.model.specs.records.Record.{Edge, edge, no_edge, record_size, length_field, elements, edges}
@@ -114,7 +113,7 @@ shelf_list s = outcome refused_text (list_causes s) (table_text (elements (list_
 abbrev pub list_table_causes : List ℕ → List ℕ → List Cause
 list_table_causes s d = (no_room (length (shelf_list s)) d ⇒ NoRoom) ∷ []
 
-abbrev pub list_table_answer : List ℕ → List ℕ → Answer
+abbrev pub list_table_answer : List ℕ → List ℕ → Result ℕ Refusal
 list_table_answer s d = answer (list_table_causes s d) (length (shelf_list s))
 
 abbrev pub list_table_leaves : List ℕ → List ℕ → List ℕ

@@ -1,8 +1,6 @@
-use Rattle.pair_bytes.proofs.Placing.{record_written}
 use borrow.Author.Rules.{rules}
+use Rattle.pair_bytes.proofs.Rules.{write_pair}
 use Rattle.pair_bytes.proofs.write_pair.Goals as goal
 
-ruleset own = (rules, record_written)
-
 pub returns : goal.returns
-returns c = search own
+returns c = search (rules, write_pair)

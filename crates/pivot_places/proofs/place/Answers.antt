@@ -5,9 +5,6 @@ use Rattle.pivot_places.proofs.place.Goals as goal
 
 ruleset own = (rules, between_start, between_end)
 
-pub loop-low-init : goal.loop-low-init
-loop-low-init c = search own
-
 pub loop-low-preserved-then-passes : goal.loop-low-preserved-then-passes
 loop-low-preserved-then-passes c =
     let between = c.loop-low in

@@ -1,15 +1,6 @@
-use Rattle.model.proofs.calls.Refusals.{handing_on}
-use Rattle.model.proofs.calls.TableCalls.{checked_wf}
 use borrow.Author.Rules.{rules}
+use Rattle.pivot_places.proofs.Rules.{place_in_pivots}
 use Rattle.pivot_places.proofs.place_in_pivots.Goals as goal
 
-ruleset own = (rules, checked_wf, handing_on)
-
-pub place-requires : goal.place-requires
-place-requires c = search own
-
-pub returns-in-Value : goal.returns-in-Value
-returns-in-Value c = search own
-
-pub returns-in-Refused : goal.returns-in-Refused
-returns-in-Refused c = search own
+pub returns-in_err-check_pivots : goal.returns-in_err-check_pivots
+returns-in_err-check_pivots c = search (rules, place_in_pivots, c.in_err-check_pivots.was)

@@ -1,15 +1,9 @@
-use Rattle.model.proofs.calls.Refusals.{handing_on, value_is}
-use Rattle.model.proofs.calls.TableCalls.{table_checked_wf}
 use borrow.Author.Rules.{rules}
+use Rattle.routing.proofs.Rules.{new_pivot_slot}
 use Rattle.routing.proofs.new_pivot_slot.Goals as goal
 
-ruleset own = (rules, value_is, handing_on, table_checked_wf)
+pub returns-in_err-n : goal.returns-in_err-n
+returns-in_err-n c = search (rules, new_pivot_slot, c.in_err-n.was)
 
-pub new_slot_of-requires : goal.new_slot_of-requires
-new_slot_of-requires c = (search own, search own)
-
-pub returns-in-Value : goal.returns-in-Value
-returns-in-Value c = search own
-
-pub returns-in-Refused : goal.returns-in-Refused
-returns-in-Refused c = search own
+pub returns : goal.returns
+returns c = search (rules, new_pivot_slot, c.in_ok-n.was)

@@ -4,15 +4,6 @@ use Rattle.routing.proofs.new_slot_of.Goals as goal
 
 ruleset own = (rules, below_all, a_pivot, above_all)
 
-pub returns-then-n-eq0 : goal.returns-then-n-eq0
-returns-then-n-eq0 c = search own
-
-pub returns-then-not-below : goal.returns-then-not-below
-returns-then-not-below c = search own
-
-pub returns-then-n-count : goal.returns-then-n-count
-returns-then-n-count c = search own
-
 pub returns : goal.returns
 returns c =
     let last = c.record_at.ensures in

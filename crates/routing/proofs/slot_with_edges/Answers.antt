@@ -1,15 +1,6 @@
-use Rattle.model.proofs.calls.Refusals.{handing_on, value_is}
-use Rattle.model.proofs.calls.TableCalls.{table_checked_wf}
 use borrow.Author.Rules.{rules}
+use Rattle.routing.proofs.Rules.{slot_with_edges}
 use Rattle.routing.proofs.slot_with_edges.Goals as goal
 
-ruleset own = (rules, value_is, handing_on, table_checked_wf)
-
-pub slot_of-requires : goal.slot_of-requires
-slot_of-requires c = (search own, search own)
-
-pub returns-in-Value : goal.returns-in-Value
-returns-in-Value c = search own
-
-pub returns-in-Refused : goal.returns-in-Refused
-returns-in-Refused c = search own
+pub returns-in_err-n : goal.returns-in_err-n
+returns-in_err-n c = search (rules, slot_with_edges, c.in_err-n.was)

@@ -1,15 +1,9 @@
-use Rattle.model.proofs.calls.TableCalls.{checked_wf}
-use Rattle.table_questions.proofs.Ends.{range_refused, range_asked}
 use borrow.Author.Rules.{rules}
+use Rattle.table_questions.proofs.Rules.{contains_range}
 use Rattle.table_questions.proofs.contains_range.Goals as goal
 
-ruleset own = (rules, checked_wf, range_refused, range_asked)
+pub returns-in_err-check_pivots : goal.returns-in_err-check_pivots
+returns-in_err-check_pivots c = search (rules, contains_range, c.in_err-check_pivots.was)
 
-pub ask_range-requires : goal.ask_range-requires
-ask_range-requires c = search own
-
-pub returns-in-Value : goal.returns-in-Value
-returns-in-Value c = search own
-
-pub returns-in-Refused : goal.returns-in-Refused
-returns-in-Refused c = search own
+pub returns : goal.returns
+returns c = search (rules, contains_range, c.in_ok-check_pivots.was)

@@ -1,11 +1,6 @@
-use Rattle.model.proofs.calls.Refusals.{handing_on}
 use borrow.Author.Rules.{rules}
+use Rattle.table_questions.proofs.Rules.{wf_edges}
 use Rattle.table_questions.proofs.wf_edges.Goals as goal
 
-ruleset own = (rules, handing_on)
-
-pub returns-in-Value : goal.returns-in-Value
-returns-in-Value c = search own
-
-pub returns-in-Refused : goal.returns-in-Refused
-returns-in-Refused c = search own
+pub returns-in_err-check_table : goal.returns-in_err-check_table
+returns-in_err-check_table c = search (rules, wf_edges, c.in_err-check_table.was)

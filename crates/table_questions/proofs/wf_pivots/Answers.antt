@@ -1,11 +1,6 @@
-use Rattle.model.proofs.calls.Refusals.{handing_on}
 use borrow.Author.Rules.{rules}
+use Rattle.table_questions.proofs.Rules.{wf_pivots}
 use Rattle.table_questions.proofs.wf_pivots.Goals as goal
 
-ruleset own = (rules, handing_on)
-
-pub returns-in-Value : goal.returns-in-Value
-returns-in-Value c = search own
-
-pub returns-in-Refused : goal.returns-in-Refused
-returns-in-Refused c = search own
+pub returns-in_err-check_pivots : goal.returns-in_err-check_pivots
+returns-in_err-check_pivots c = search (rules, wf_pivots, c.in_err-check_pivots.was)

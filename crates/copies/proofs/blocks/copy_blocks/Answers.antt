@@ -1,28 +1,19 @@
-use native.Mathlib.Omega.{arith}
+use Prim.Native.Nat.{◌+◌}
 use borrow.Author.Rules.{rules}
-use Rattle.copies.proofs.Copying.{copy_start, block_room, place_room, copy_on, last_room, last_place_lem, copy_last}
+use Rattle.copies.proofs.Copying.{Copied, copy_on, copy_last}
 use Rattle.copies.proofs.blocks.copy_blocks.Goals as goal
+use Rattle.copies.proofs.blocks.copy_blocks.Goals.{else-loop-i-test, then-loop-i-test+else-i-step-i-end}
 
-ruleset own = (rules, copy_start, block_room, place_room, copy_on, last_room, last_place_lem, copy_last)
+ruleset own = (rules, copy_on, copy_last)
 
 pub loop-i-preserved : goal.loop-i-preserved
-loop-i-preserved c = search own
+loop-i-preserved g c = search own
 
 pub returns : goal.returns
-returns c =
-    copy_last
-    16
-    c.args.src.now
-    c.args.n
-    c.args.dst.now
-    c.loop-i.dst
-    c.loop-i.i
-    (omega arith)
-    (omega arith)
-    c.loop-i.invariant
-    (omega arith)
-    c.loop-i-test.false
-    c.block_of-2.result
-    c.put_block-2.new.dst
-    c.block_of-2.ensures
-    c.put_block-2.ensures
+returns g c =
+    elim c.loop-i-test.branch [
+      | else-loop-i-test w ↦ search own
+      | then-loop-i-test+else-i-step-i-end w ↦
+          let k : Copied c.args.src.now c.args.n c.args.dst.now c.loop-i-test.dst (c.loop-i.i + g.row.N) = rw w.dst-is (search own) in
+          search own
+    ]

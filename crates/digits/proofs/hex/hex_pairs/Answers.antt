@@ -1,12 +1,8 @@
-use Rattle.copies.proofs.Turns.{set_kept}
 use borrow.Author.Rules.{rules}
-use Rattle.digits.proofs.Digits.{pair_room_lem, pair_turn, pair_end}
+use Rattle.digits.proofs.Digits.{pair_end}
 use Rattle.digits.proofs.hex.hex_pairs.Goals as goal
 
-ruleset own = (rules, set_kept, pair_room_lem, pair_turn, pair_end)
-
-pub loop-i-preserved : goal.loop-i-preserved
-loop-i-preserved c = (search own, search own, search own)
+ruleset own = (rules, pair_end)
 
 pub returns : goal.returns
 returns c = search own

@@ -1,12 +1,9 @@
 use mathlib.Core.Path.{◌≡◌}
 use mathlib.Core.List.{◌++◌}
-use Prim.Native.Nat.{◌*◌, ◌-◌, ◌≤◌}
-use lib.ListN.{length, take, drop}
+use Prim.Native.Nat.{◌*◌}
+use lib.ListN.{take, drop}
 use Rattle.model.specs.list.ShelfList.{hex}
 use Rattle.digits.proofs.hex.hex_pairs.Given as goal
 
 abbrev pub invariant-loop-i : goal.invariant-loop-i
-invariant-loop-i l = (l.i ≤ length l.k) × (length l.dest ≡ length l.initial.dest) × (l.dest ≡ take (2 * l.i) (hex l.k) ++ drop (2 * l.i) l.initial.dest)
-
-abbrev pub decreases-loop-i : goal.decreases-loop-i
-decreases-loop-i l = length l.k - l.i
+invariant-loop-i l = l.dest ≡ take (2 * l.i) (hex l.k) ++ drop (2 * l.i) l.initial.dest

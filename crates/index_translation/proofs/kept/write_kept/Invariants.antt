@@ -1,9 +1,5 @@
-use Prim.Native.Nat.{◌-◌}
 use Rattle.index_translation.proofs.Placing.{Placing}
 use Rattle.index_translation.proofs.kept.write_kept.Given as goal
 
 abbrev pub invariant-loop-i : goal.invariant-loop-i
 invariant-loop-i l = Placing l.bucket l.prefix l.index l.initial.dest l.dest l.i l.from l.kept
-
-abbrev pub decreases-loop-i : goal.decreases-loop-i
-decreases-loop-i l = l.count - l.i

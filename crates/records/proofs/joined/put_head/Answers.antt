@@ -1,14 +1,11 @@
-use Rattle.records.proofs.JoinedKeys.{head_start, head_turn, head_end, head_none}
 use borrow.Author.Rules.{rules}
+use Rattle.records.proofs.JoinedKeys.{head_made, head_none}
 use Rattle.records.proofs.joined.put_head.Goals as goal
 
-ruleset own = (rules, head_start, head_turn, head_end, head_none)
+ruleset own = (rules, head_made, head_none)
 
 pub returns-then-dest-lt-RECORD_SIZE : goal.returns-then-dest-lt-RECORD_SIZE
 returns-then-dest-lt-RECORD_SIZE c = search own
 
-pub loop-i-preserved : goal.loop-i-preserved
-loop-i-preserved c = (search own, search own, search own)
-
 pub returns : goal.returns
-returns c = search own
+returns c = let e = c.fill.ensures.after (λ y h. search rules) in search own

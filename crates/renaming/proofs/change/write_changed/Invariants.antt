@@ -1,5 +1,4 @@
 use mathlib.Core.Path.{◌≡◌}
-use Prim.Native.Nat.{◌-◌, ◌≤◌}
 use lib.ListN.{length, take}
 use Rattle.model.specs.records.Record.{encode_all}
 use Rattle.model.specs.calls.Refusals.{over}
@@ -7,7 +6,4 @@ use Rattle.changed_pivots.specs.Renamed.{changed_pivots}
 use Rattle.renaming.proofs.change.write_changed.Given as goal
 
 abbrev pub invariant-loop-i : goal.invariant-loop-i
-invariant-loop-i l = (l.i ≤ l.last) × (length l.dest ≡ length l.initial.dest) × (l.dest ≡ over (encode_all (take l.i (changed_pivots l.pivots l.prefix l.new_prefix))) l.initial.dest)
-
-abbrev pub decreases-loop-i : goal.decreases-loop-i
-decreases-loop-i l = l.last - l.i
+invariant-loop-i l = (length l.dest ≡ length l.initial.dest) × (l.dest ≡ over (encode_all (take l.i (changed_pivots l.pivots l.prefix l.new_prefix))) l.initial.dest)

@@ -1,21 +1,12 @@
-use mathlib.Core.Path.{refl}
-use Rattle.renaming.proofs.GivenEnd.{keys_refused, keys_passed, keys_given, keys_changeable}
 use borrow.Author.Rules.{rules}
+use Rattle.renaming.proofs.Rules.{translate_pivots}
 use Rattle.renaming.proofs.pivots.translate_pivots.Goals as goal
 
-ruleset own = (rules, refl, keys_refused, keys_passed, keys_given, keys_changeable)
+pub returns-in_err-check_changed-clause-answered : goal.returns-in_err-check_changed-clause-answered
+returns-in_err-check_changed-clause-answered c = search (rules, translate_pivots, c.in_err-check_changed.was)
 
-pub returns-in_default-clause-answered : goal.returns-in_default-clause-answered
-returns-in_default-clause-answered c = search own
-
-pub returns-in_default-clause-written : goal.returns-in_default-clause-written
-returns-in_default-clause-written c = search own
+pub returns-in_err-check_changed-clause-written : goal.returns-in_err-check_changed-clause-written
+returns-in_err-check_changed-clause-written c = search (rules, translate_pivots, c.in_err-check_changed.was)
 
 pub put_pivots-requires : goal.put_pivots-requires
-put_pivots-requires c = search own
-
-pub returns-clause-answered : goal.returns-clause-answered
-returns-clause-answered c = search own
-
-pub returns-clause-written : goal.returns-clause-written
-returns-clause-written c = search own
+put_pivots-requires c = search (rules, translate_pivots, c.in_ok-check_changed.was)

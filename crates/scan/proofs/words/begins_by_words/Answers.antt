@@ -1,16 +1,16 @@
 use borrow.Author.Rules.{rules}
-use Rattle.scan.proofs.Beginning.{begins_start, word_differs, begins_on, last_decides}
+use Rattle.scan.proofs.Beginning.{begins_on, last_decides}
 use Rattle.scan.proofs.words.begins_by_words.Goals as goal
+use Rattle.scan.proofs.words.begins_by_words.Goals.{else-loop-i-test, then-loop-i-test+else-word_at+else-last-i-gt8}
 
-ruleset own = (rules, begins_start, word_differs, begins_on, last_decides)
-
-pub returns-then-word_at : goal.returns-then-word_at
-returns-then-word_at c = search own
-
-pub loop-i-preserved : goal.loop-i-preserved
-loop-i-preserved c =
-    let on = begins_on _ _ _ c.loop-i-test.true _ _ c.word_at.ensures c.word_at-in-loop-i.ensures c.if-word_at.false in
-    on (search own) (search own) (search own) c.loop-i.invariant
+ruleset own = (rules, last_decides)
 
 pub returns : goal.returns
-returns c = search own
+returns c =
+    elim c.loop-i-test.branch [
+      | else-loop-i-test w ↦ search own
+      | then-loop-i-test+else-word_at+else-last-i-gt8 w ↦
+          let on = begins_on _ _ _ w.loop-i-test.true _ _ w.word_at.ensures w.word_at-in-loop-i.ensures w.if-word_at.false in
+          let begun = on (search rules) (search rules) (search rules) c.loop-i.invariant in
+          last_decides _ _ (search rules) (search rules) _ _ _ (search rules) c.word_at-2.ensures c.word_at-3.ensures begun (search rules) (search rules)
+    ]
