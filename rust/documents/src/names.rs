@@ -6,7 +6,12 @@ use crate::table::spans;
 use std::collections::BTreeSet;
 
 /// Pages that tell what had which name before.
-const OF_BEFORE: [&str; 2] = ["docs/PORT.md", "docs/PORT-NAMES.md"];
+const OF_BEFORE: [&str; 4] = [
+    "docs/PORT.md",
+    "docs/PORT-NAMES.md",
+    "docs/DESIGN-PASS.md",
+    "docs/DESIGN-CHANGES.md",
+];
 
 /// An exception is a piece of a span that may stand though nothing has that name, with the reason.
 pub fn check(repository: &Repository, exceptions: &[(&str, &str)]) -> Report {

@@ -32,7 +32,7 @@ pub const PLACES: &[Place] = &[
         "}",
     ),
     place(
-        "crates/refusals/src/lib.rt",
+        "crates/model/src/lib.rt",
         Says::Lines("Refusal::{name} => {number},"),
         "match r {",
         "}",
