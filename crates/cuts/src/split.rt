@@ -92,6 +92,7 @@ fn cut(
     ensures pivots { dest_pivots.new ≡ cut_leaves_pivots left pivots.now edges.now k.now dest_pivots.old dest_edges.old }
     ensures edges { dest_edges.new ≡ cut_leaves_edges left pivots.now edges.now k.now dest_pivots.old dest_edges.old }
 {
+    // As above, let .. else.
     let routed = routing::slot_with_edges(pivots, edges, k, left);
     let Ok(c) = routed else {
         return routed;
@@ -100,7 +101,7 @@ fn cut(
 }
 
 // SplitLeft with SplitLeftEdges: the pivots below the key and the key, and their edges, at the heads of the two
-// destinations. Answers the number of pivots. Refuses 1, 2, 3, 4, 5, 8 and 10.
+// destinations. Answers the number of pivots. Refuses 1, 2, 3, 4, 5, 8 and 10. Two names, since C calls both.
 pub fn split_left(
     pivots: &[u8],
     edges: &[u8],

@@ -83,7 +83,7 @@ fn cut(
 }
 
 // The entries below the key, and the index that belongs to them and the left cut of the table, at the heads of the two
-// destinations. Answers the number of entries. Refuses 1, 2, 3, 14, 5, 15 and 10.
+// destinations. Answers the number of entries. Refuses 1, 2, 3, 14, 5, 15 and 10. Two names, since C calls both.
 pub fn cut_index_left(
     pivots: &[u8],
     bucket: &[u8],

@@ -14,7 +14,7 @@ const INPUT_SIZE: usize = 2 + (MAX_PIVOTS + (MAX_PIVOTS - 1)) * RECORD_SIZE + 1;
 const TEXT_SIZE: usize = 32715;
 
 // Reads until buf is full or the input ends, and answers how many bytes. A read that a signal interrupts counts as one that
-// failed.
+// failed. By a while, since a read says only then how far it came.
 fn read_input<R: Read>(from: &mut R, buf: &mut [u8]) -> io::Result<usize>
     ensures { IfOk result (λ n. n ≤ length buf.new) }
 {
