@@ -1,5 +1,5 @@
 -- An answer told by a number and a value, and yes and no as 1 and 0.
-use Rattle.std.specs.Prelude.{Bool, true, false, Result, Ok, Err}
+use Rattle.std.specs.Prelude.{Bool, true, false, ◌||◌, Result, Ok, Err}
 use Rattle.std.specs.Int.{from_bool}
 use mathlib.Core.Path.{◌≡◌}
 use Prim.Native.Nat.{ℕ}
@@ -38,10 +38,16 @@ module _ (d : Result Bool Refusal) where
   said true n e h = rw (e, h)
   said false n e h = rw (e, h)
 
+  -- also where yes or no was told by way of an `or` that adds nothing
+  pub said_or : (b : Bool) (n : ℕ) → d ≡ Ok b → n ≡ from_bool (b || false) → Ok n ≡ decided_answer d
+  unfolding decided_answer
+  said_or true n e h = rw (e, h)
+  said_or false n e h = rw (e, h)
+
   pub said_refused : (r : Refusal) (x : Result ℕ Refusal) → d ≡ Err r → x ≡ Err r → x ≡ decided_answer d
   unfolding decided_answer
   said_refused r x e f = rw e f
 
-pub ruleset turning = (said, said_refused)
+pub ruleset turning = (said, said_or, said_refused)
 
 pub ruleset telling = (value_number, value_told, refusal_number, refusal_told, order_told)

@@ -86,17 +86,31 @@ pub fn put_pair(pair: PrefixSet, dest: &mut [u8])
     write_pair(pair, dest);
 }
 
-// Places the pair of a call's result: a refusal is handed on; else 10 where there is no room for a record, and else the
-// pair is written to the head of dest, as `put_pair` does. Answers 1 where the pair is there, 0 where it is absent.
+// Places a pair beside an answer: a refusal is handed on; else 10 where there is no room for a record, and else the pair
+// is written to the head of dest, as `put_pair` does.
+#[tactic(auto, using(crate::proofs::Rules::place_beside))]
+pub fn place_beside(
+    answer: Result<usize, Refusal>,
+    pair: PrefixSet,
+    dest: &mut [u8],
+) -> Result<usize, Refusal>
+    ensures answered { result ≡ placed_answer answer dest.old }
+    ensures written { dest.new ≡ placed_leaves answer (state pair) dest.old }
+{
+    let told = answer?;
+    if dest.len() < PAIR_SIZE {
+        return Err(Refusal::NoRoom);
+    }
+    put_pair(pair, dest);
+    Ok(told)
+}
+
+// Places the pair of a call's result beside what is told of it: 1 where it is there, 0 where it is absent.
 #[tactic(auto, using(crate::proofs::Rules::place_pair))]
 pub fn place_pair(made: Result<PrefixSet, Refusal>, dest: &mut [u8]) -> Result<usize, Refusal>
     ensures answered { result ≡ placed_answer (told_there made) dest.old }
     ensures written { dest.new ≡ placed_leaves (told_there made) (state_beside made) dest.old }
 {
     let pair = made?;
-    if dest.len() < PAIR_SIZE {
-        return Err(Refusal::NoRoom);
-    }
-    put_pair(pair, dest);
-    Ok(usize::from(pair.there))
+    place_beside(Ok(usize::from(pair.there)), pair, dest)
 }

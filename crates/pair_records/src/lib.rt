@@ -6,7 +6,7 @@ ghost use Rattle.model.specs.calls.PairRecordCalls.{reverse_pair_answer, reverse
 
 use model::{MAX_LEN, PAIR_SIZE, Refusal};
 use pair_bytes::{NEW, NEW_LEN, OLD, OLD_LEN};
-pub use pair_bytes::{place_pair, put_pair, read_pair};
+pub use pair_bytes::{place_beside, place_pair, put_pair, read_pair};
 
 // RevPrefixSet: the pair with its prefixes exchanged, at the head of dest. Answers 1 where it is there, 0 where it is
 // absent. Refuses 1, 2 and 10.

@@ -2,7 +2,7 @@
 use mathlib.Core.Path.{◌≡◌, refl, sym, ◌∙◌}
 use mathlib.Core.Bool.{Bool, true, false, true≢false}
 use mathlib.Core.List.{List, [], ◌∷◌}
-use Prim.Native.Nat.{ℕ, zero, suc, ◌+◌, ◌-◌, ◌≤◌, ◌<◌}
+use Prim.Native.Nat.{ℕ, zero, suc, ◌+◌, ◌*◌, ◌-◌, ◌/◌, ◌≤◌, ◌<◌}
 use native.Mathlib.Omega.{arith}
 use mir.Syntax.{w8}
 use mir.Val.{Fits}
@@ -88,6 +88,13 @@ module _ (p k : List ℕ) (i : ℕ) (h : i < length p - 8) (x y : ℕ) (u : x �
   -- one that agrees is passed
   pub begins_on : x ≡ y → length p ≤ length k → ((j : ℕ) → Fits w8 (get_or p j 0)) → ((j : ℕ) → Fits w8 (get_or k j 0)) → Begun p k i → Begun p k (i + 8)
   begins_on e l s t g = record { within = omega arith; same = agrees p k i (omega arith) x y u v l s t e ∙ g.same }
+
+-- the same of the word of that number
+pub begins_number : (p k : List ℕ) (i x y : ℕ) → i < (length p - 8 + 7) / 8 → x ≡ word_of 8 (drop (8 * i) p) → y ≡ word_of 8 (drop (8 * i) k) → x ≡ y
+    → length p ≤ length k → ((j : ℕ) → Fits w8 (get_or p j 0)) → ((j : ℕ) → Fits w8 (get_or k j 0)) → Begun p k (8 * i) → Begun p k (8 * (i + 1))
+begins_number p k i x y h u v e l s t g =
+    let n : 8 * (i + 1) ≡ 8 * i + 8 = omega arith in
+    rw n (begins_on p k (8 * i) (omega arith) x y u v e l s t g)
 
 -- ---- the last, where those before it agree up to the place j
 

@@ -114,7 +114,7 @@ module _ (a b : List ℕ) (i n : ℕ) (c : Agreed a b i) (e : n ≡ min (length 
         record { inside = omega (arith, c.words); words = omega (arith, c.words); same = rw (take-add i 8 a, take-add i 8 b, c.same, w) }
 
     -- a lower one is below
-    word_below : x < y → sign Less ≡ cmp (key (take (whole a b) a)) (key (take (whole a b) b))
+    pub word_below : x < y → sign Less ≡ cmp (key (take (whole a b) a)) (key (take (whole a b) b))
     unfolding whole
     word_below g =
         let w = below (lower_word a b i c.same (omega arith) (omega arith) (bytes_of a p) (bytes_of b q) (rw (← u, ← v) g)) in
@@ -122,7 +122,7 @@ module _ (a b : List ℕ) (i n : ℕ) (c : Agreed a b i) (e : n ≡ min (length 
         (λ z. true≢false (cc (sym w ∙ z))) ∙ w)
 
     -- and a higher one above
-    word_above : y < x → sign Greater ≡ cmp (key (take (whole a b) a)) (key (take (whole a b) b))
+    pub word_above : y < x → sign Greater ≡ cmp (key (take (whole a b) a)) (key (take (whole a b) b))
     unfolding whole
     word_above d =
         let w = above (lower_word b a i (sym c.same) (omega arith) (omega arith) (bytes_of b q) (bytes_of a p) (rw (← u, ← v) d)) in
@@ -144,6 +144,13 @@ module _ (a b : List ℕ) (i n : ℕ) (c : Agreed a b i) (e : n ≡ min (length 
   words_agree h =
       let w : min (length a) (length b) / 8 * 8 ≡ i = omega (arith, c.inside, c.words) in
       rw (w, c.same) (sym (cmp_same (key (take i b))))
+
+-- the word of that number is passed
+pub number_passed : (a b : List ℕ) (i n : ℕ) → Agreed a b (8 * i) → n ≡ min (length a) (length b) → i < n / 8 → (x y : ℕ) → x ≡ big_of 8 0 (drop (8 * i) a)
+    → y ≡ big_of 8 0 (drop (8 * i) b) → ((j : ℕ) → Fits w8 (get_or a j 0)) → ((j : ℕ) → Fits w8 (get_or b j 0)) → x ≡ y → Agreed a b (8 * (i + 1))
+number_passed a b i n c e h x y u v p q g =
+    let f : 8 * (i + 1) ≡ 8 * i + 8 = omega arith in
+    rw f (word_passed a b (8 * i) n c e (omega arith) x y u v p q g)
 
 -- ---- the word, as the library reads it
 

@@ -64,6 +64,13 @@ module _ (a b : List ℕ) (n i : ℕ) (c : Alike a b n i) where
   pub alike_end : n / 8 * 8 ≤ i → n / 8 * 8 + length (common_run (drop (n / 8 * 8) a) (drop (n / 8 * 8) b)) ≡ length (common_run a b)
   alike_end l = let e : i ≡ n / 8 * 8 = omega (arith, c.inside) in rw e at c.same
 
+-- the word of that number is passed
+pub alike_number : (a b : List ℕ) (n i : ℕ) → Alike a b n (8 * i) → (x y : ℕ) → x ≡ word_of 8 (drop (8 * i) a) → y ≡ word_of 8 (drop (8 * i) b) → x ≡ y → i < n / 8
+    → n ≤ length a → n ≤ length b → ((j : ℕ) → Fits w8 (get_or a j 0)) → ((j : ℕ) → Fits w8 (get_or b j 0)) → Alike a b n (8 * (i + 1))
+alike_number a b n i c x y u v e l p q s t =
+    let f : 8 * (i + 1) ≡ 8 * i + 8 = omega arith in
+    rw f (alike_on a b n (8 * i) c x y u v e (omega arith) p q s t)
+
 -- ---- the word of four and of eight bytes, as the library reads it
 
 half_first : (l : List ℕ) → 4 ≤ length l → from_le_bytes w32 (take 4 l) ≡ word_of 4 l

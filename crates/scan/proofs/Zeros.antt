@@ -70,20 +70,29 @@ module _ (m : ℕ) (a : List ℕ) (from i x : ℕ) (u : x ≡ word_of m (drop i 
 
 -- ---- in the course of a scan by words of eight
 
-module _ (a : List ℕ) (i x : ℕ) where
+-- the bytes from one place up to another are zero
+pub record Cleared (a : List ℕ) (from i : ℕ) : Type 0 where
+  pub begun : from ≤ i
+  pub same : all_zero (drop i a) ≡ all_zero (drop from a)
+
+-- at the start there are none
+pub cleared_start : (a : List ℕ) (from : ℕ) → Cleared a from from
+cleared_start a from = record { begun = omega arith; same = refl }
+
+module _ (a : List ℕ) (from i x : ℕ) (c : Cleared a from i) where
   -- a word that isn't zero decides
-  pub word_spoils : x ≡ word_of 8 (drop i a) → (x ≡ 0 → ⊥) → false ≡ all_zero a
-  word_spoils u = no_zeros 8 a 0 i x u (omega arith)
+  pub word_spoils : x ≡ word_of 8 (drop i a) → (x ≡ 0 → ⊥) → false ≡ all_zero (drop from a)
+  word_spoils u = no_zeros 8 a from i x u c.begun
 
   -- one of zero is passed
-  pub word_cleared : all_zero (drop i a) ≡ all_zero a → x ≡ word_of 8 (drop i a) → x ≡ 0 → i < length a - 8 → all_zero (drop (i + 8) a) ≡ all_zero a
-  word_cleared c u z l =
+  pub word_cleared : x ≡ word_of 8 (drop i a) → x ≡ 0 → i < length a - 8 → Cleared a from (i + 8)
+  word_cleared u z l =
       let w = zero_word 8 (drop i a) (omega (arith, length-drop i a)) (sym u ∙ z) in
-      (rw drop-drop at w) ∙ c
+      record { begun = omega (arith, c.begun); same = (rw drop-drop at w) ∙ c.same }
 
   -- and the last decides
-  pub last_cleared : all_zero (drop i a) ≡ all_zero a → 8 ≤ length a → length a - 8 ≤ i → x ≡ word_of 8 (drop (length a - 8) a) → eqb x 0 ≡ all_zero a
-  last_cleared c l h u = last_word 8 a 0 (length a - 8) x u (omega arith) i (omega arith) h c
+  pub last_cleared : from + 8 ≤ length a → length a - 8 ≤ i → x ≡ word_of 8 (drop (length a - 8) a) → eqb x 0 ≡ all_zero (drop from a)
+  last_cleared l h u = last_word 8 a from (length a - 8) x u (omega arith) i (omega arith) h c.same
 
 -- ---- the end of a word
 

@@ -45,25 +45,23 @@ pub fn zero_from(a: &[u8], from: usize) -> bool
     if a.len() <= from {
         return true;
     }
-    let rest = &a[from..];
-    if 8 <= rest.len() {
-        return zero_words(rest);
+    if 8 <= a.len() - from {
+        return zero_words(a, from);
     }
     if a.len() < 8 {
-        return zero_bytes(rest);
+        return zero_bytes(&a[from..]);
     }
     zero_end(a, from)
 }
 
 // The order of two slices by whole words, up to the last few bytes of the shorter.
-#[tactic(auto, using(crate::proofs::BigWords::agreed_start, crate::proofs::BigWords::words_differ, crate::proofs::BigWords::words_agree))]
+#[tactic(auto, using(crate::proofs::BigWords::agreed_start, crate::proofs::BigWords::number_passed, crate::proofs::BigWords::words_differ, crate::proofs::BigWords::words_agree))]
 pub fn order_words(a: &[u8], b: &[u8]) -> Ordering
     ensures { sign result ≡ cmp (key (take (whole a.now b.now) a.now)) (key (take (whole a.now b.now) b.now)) }
 {
-    let whole = a.len().min(b.len()) / 8 * 8;
-    for i in (0..whole).step_by(8) {
-        let x = big_at(a, i);
-        let y = big_at(b, i);
+    for i in 0..a.len().min(b.len()) / 8 {
+        let x = big_at(a, 8 * i);
+        let y = big_at(b, 8 * i);
         if x != y {
             return x.cmp(&y);
         }

@@ -33,19 +33,18 @@ pub(crate) fn big_at(s: &[u8], at: usize) -> u64
 }
 
 // A place up to which the first n bytes agree, by words.
-#[tactic(auto, using(crate::proofs::ByWords::alike_start, crate::proofs::ByWords::alike_on, crate::proofs::ByWords::alike_end))]
+#[tactic(auto, using(crate::proofs::ByWords::alike_start, crate::proofs::ByWords::alike_number, crate::proofs::ByWords::alike_end))]
 pub(crate) fn equal_words(a: &[u8], b: &[u8], n: usize) -> usize
     requires { (n ≤ length a.now) × (n ≤ length b.now) }
     ensures upper_bound { result ≤ n }
     ensures agreed { result + length (common_run (drop result a.now) (drop result b.now)) ≡ length (common_run a.now b.now) }
 {
-    let whole = n / 8 * 8;
-    for i in (0..whole).step_by(8) {
-        if word_at(a, i) != word_at(b, i) {
-            return i;
+    for i in 0..n / 8 {
+        if word_at(a, 8 * i) != word_at(b, 8 * i) {
+            return 8 * i;
         }
     }
-    whole
+    n / 8 * 8
 }
 
 // The place i, or four bytes on where these agree.
@@ -79,14 +78,16 @@ pub(crate) fn equal_bytes(a: &[u8], b: &[u8], n: usize, i: usize) -> usize
     n
 }
 
-// Whether all bytes are zero, by words. The last word ends where they do, and may look again at bytes of the one before it.
-#[tactic(auto, using(crate::proofs::Zeros::word_spoils, crate::proofs::Zeros::word_cleared, crate::proofs::Zeros::last_cleared))]
-pub(crate) fn zero_words(a: &[u8]) -> bool
-    requires { 8 ≤ length a.now }
-    ensures { result ≡ all_zero a.now }
+// Whether the bytes from a place on are zero, by words. The last word ends where they do, and may look again at bytes of
+// the one before it. By places in all of them: where their number is known, as a record's is, the compiler then knows how
+// many words there can be, and makes a line of tests without a loop.
+#[tactic(auto, using(crate::proofs::Zeros::cleared_start, crate::proofs::Zeros::word_spoils, crate::proofs::Zeros::word_cleared, crate::proofs::Zeros::last_cleared))]
+pub(crate) fn zero_words(a: &[u8], from: usize) -> bool
+    requires { from + 8 ≤ length a.now }
+    ensures { result ≡ all_zero (drop from a.now) }
 {
     let end = a.len() - 8;
-    for i in (0..end).step_by(8) {
+    for i in (from..end).step_by(8) {
         if word_at(a, i) != 0 {
             return false;
         }
@@ -113,14 +114,14 @@ pub(crate) fn zero_bytes(a: &[u8]) -> bool
 }
 
 // Whether k begins with p, by words. The last word ends where p does, and may look again at bytes of the one before it.
-#[tactic(auto, using(crate::proofs::Beginning::begins_start, crate::proofs::Beginning::word_differs, crate::proofs::Beginning::begins_on, crate::proofs::Beginning::last_decides))]
+#[tactic(auto, using(crate::proofs::Beginning::begins_start, crate::proofs::Beginning::word_differs, crate::proofs::Beginning::begins_number, crate::proofs::Beginning::last_decides))]
 pub(crate) fn begins_by_words(p: &[u8], k: &[u8]) -> bool
     requires { (8 ≤ length p.now) × (length p.now ≤ length k.now) }
     ensures { result ≡ IsPrefix p.now k.now }
 {
     let last = p.len() - 8;
-    for i in (0..last).step_by(8) {
-        if word_at(p, i) != word_at(k, i) {
+    for i in 0..(last + 7) / 8 {
+        if word_at(p, 8 * i) != word_at(k, 8 * i) {
             return false;
         }
     }

@@ -6,11 +6,12 @@ use crate::table::spans;
 use std::collections::BTreeSet;
 
 /// Pages that tell what had which name before.
-const OF_BEFORE: [&str; 4] = [
+const OF_BEFORE: [&str; 5] = [
     "docs/PORT.md",
     "docs/PORT-NAMES.md",
     "docs/DESIGN-PASS.md",
     "docs/DESIGN-CHANGES.md",
+    "docs/LOOK-BACK.md",
 ];
 
 /// An exception is a piece of a span that may stand though nothing has that name, with the reason.

@@ -11,6 +11,6 @@ returns c =
     elim c.loop-i-test.branch [
       | else-loop-i-test w ↦ search own
       | then-loop-i-test+else-word_at-ne0+else-end-i-gt8 w ↦
-          let on = word_cleared _ _ _ c.loop-i.invariant w.word_at.ensures w.if-word_at-ne0.false w.loop-i-test.true in
-          last_cleared _ (c.loop-i.i + 8) _ on (search rules) (search rules) c.word_at-2.ensures
+          let on = word_cleared _ _ _ _ c.loop-i.invariant w.word_at.ensures w.if-word_at-ne0.false w.loop-i-test.true in
+          last_cleared _ _ (c.loop-i.i + 8) _ on (search rules) (search rules) c.word_at-2.ensures
     ]
