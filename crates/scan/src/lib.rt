@@ -42,14 +42,14 @@ pub fn count_bytes(a: &[u8], b: &[u8]) -> usize
 pub fn zero_from(a: &[u8], from: usize) -> bool
     ensures { result ≡ all_zero (drop from a.now) }
 {
-    if a.len() <= from {
-        return true;
+    if a.len() < 8 {
+        return zero_bytes(a.get(from..).unwrap_or(&[]));
     }
-    if 8 <= a.len() - from {
+    if from <= a.len() - 8 {
         return zero_words(a, from);
     }
-    if a.len() < 8 {
-        return zero_bytes(&a[from..]);
+    if a.len() <= from {
+        return true;
     }
     zero_end(a, from)
 }
