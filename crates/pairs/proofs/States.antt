@@ -143,3 +143,10 @@ module _ (y t : Bool) (n m : ℕ) (a b : List ℕ)
 
   pub new_inside : m ≤ 64
   new_inside = short.new
+
+  -- as the bounds of a slice ask for it
+  pub old_ends : length a ≡ 64 → n ≤ length a
+  old_ends l = omega (arith, short.old, l)
+
+  pub new_ends : length b ≡ 64 → m ≤ length b
+  new_ends l = omega (arith, short.new, l)

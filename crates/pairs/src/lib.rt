@@ -109,7 +109,7 @@ impl PrefixSet {
     }
 
     // ComposePrefixSet: the pair that undoes b and then does this one. Refuses 2, 7 and 8.
-    #[tactic(auto, using(crate::proofs::Rules::compose))]
+    #[tactic(auto, using(crate::proofs::Rules::compose, crate::proofs::Rules::ends))]
     pub fn compose(self, b: PrefixSet) -> Result<PrefixSet, Refusal>
         ensures answered { told_there result ≡ compose_answer (state self) (state b) }
         ensures paired { state_beside result ≡ compose_pair (state self) (state b) }
